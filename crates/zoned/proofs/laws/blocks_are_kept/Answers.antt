@@ -1,0 +1,4 @@
+use Rattle.zoned.proofs.laws.blocks_are_kept.Needs as need
+
+pub returns : need.returns
+returns c = ?

@@ -1,0 +1,10 @@
+pub mod Codes
+pub mod Conditions
+pub mod Commands
+pub mod Limits
+pub mod Blocks
+pub mod Report
+pub mod Rules
+pub mod Listing
+pub mod Runs
+pub mod Laws
