@@ -1,2 +1,4 @@
 pub mod Bounds
 pub mod Listed
+pub mod Steps
+pub mod KeptRuns

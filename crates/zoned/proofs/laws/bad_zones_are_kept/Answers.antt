@@ -1,4 +1,5 @@
+use Rattle.zoned.proofs.KeptRuns.{bad-kept}
 use Rattle.zoned.proofs.laws.bad_zones_are_kept.Needs as need
 
 pub returns : need.returns
-returns c = ?
+returns c = bad-kept

@@ -1,4 +1,5 @@
+use Rattle.zoned.proofs.KeptRuns.{laws-kept}
 use Rattle.zoned.proofs.laws.laws_are_kept.Needs as need
 
 pub returns : need.returns
-returns c = ?
+returns c = laws-kept

@@ -1,0 +1,7 @@
+// Two zoned drives in memory: a magnetic one, with all its zones in one byte area, and a flash one, with its conventional and its
+// sequential zones in two. Zones may carry a trip, by which a test has them fault.
+pub mod counting;
+pub mod machine;
+pub mod steps;
+pub mod table;
+pub mod trips;
