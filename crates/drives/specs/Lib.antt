@@ -1,2 +1,4 @@
+pub mod Areas
+pub mod Drives
 pub mod Machine
 pub mod Table
