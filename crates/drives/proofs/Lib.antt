@@ -1,3 +1,7 @@
 pub mod Within
 pub mod Passing
 pub mod Fresh
+pub mod Joined
+pub mod Pieces
+pub mod Shapes
+pub mod States

@@ -4,7 +4,6 @@ use mathlib.Core.List.{List, [], _++_}
 use Prim.Native.Nat.{ℕ, _-_, _*_}
 use lib.Dec.{eqb, ltb}
 use lib.ListN.{length, replicate, set}
-use Rattle.std.specs.Of.Vec.{vec-items}
 use Rattle.std.specs.declared.result.Result.{Result}
 use Rattle.std.specs.declared.result.Result.the-variants.{Ok, Err}
 use Rattle.zoned.specs.declared.conditions.Condition.the-variants.{Plain, Empty}
@@ -13,11 +12,12 @@ use Rattle.zoned.specs.declared.counts.Counts.{Counts}
 use Rattle.zoned.specs.declared.refusals.InputRefusal.{InputRefusal}
 use Rattle.zoned.specs.declared.refusals.InputRefusal.the-variants as Input
 use Rattle.zoned.specs.Limits.{within, none}
+use Rattle.zoned.specs.Report.{Report}
 use Rattle.zoned.specs.Rules.{Blocks, State}
 use Rattle.drives.specs.declared.flash.Flash.{Flash}
 use Rattle.drives.specs.declared.magnetic.Magnetic.{Magnetic}
 use Rattle.drives.specs.declared.trips.Trip.{Trip}
-use Rattle.drives.specs.Areas.{blocks-in}
+use Rattle.drives.specs.Areas.{blocks-in, area-blocks}
 use Rattle.drives.specs.Table.{Table, table-of, plan-of, no-trip}
 
 -- a drive whose zones are t and whose blocks are bs
@@ -26,19 +26,28 @@ drive t bs = record { meaning = record { told = t .told; blocks = bs; misused = 
 
 -- ---- the magnetic drive: all zones in one area
 
-abbrev pub magnetic-blocks : Counts → List ℕ → Blocks
-magnetic-blocks c area = blocks-in (c .zones) (c .blocks) (c .bytes) area
+abbrev pub magnetic-table : Magnetic → Table
+magnetic-table d = table-of (d .zones)
+
+abbrev pub magnetic-report : Magnetic → Report
+magnetic-report d = table-of (d .zones) .told
 
 abbrev pub magnetic-state : Magnetic → State
-magnetic-state d = drive (table-of (d .zones)) (magnetic-blocks (d .zones .geometry .counts) (vec-items (d .area)))
+magnetic-state d = drive (table-of (d .zones)) (area-blocks (d .area))
 
 -- ---- the flash drive: its two sorts of zones in two areas
 
-abbrev pub flash-blocks : Counts → List ℕ → List ℕ → Blocks
-flash-blocks c conventional sequential = blocks-in (c .conventional) (c .blocks) (c .bytes) conventional ++ blocks-in (c .zones - c .conventional) (c .blocks) (c .bytes) sequential
+abbrev pub flash-table : Flash → Table
+flash-table d = table-of (d .zones)
+
+abbrev pub flash-report : Flash → Report
+flash-report d = table-of (d .zones) .told
+
+abbrev pub flash-store : Flash → Blocks
+flash-store d = area-blocks (d .conventional) ++ area-blocks (d .sequential)
 
 abbrev pub flash-state : Flash → State
-flash-state d = drive (table-of (d .zones)) (flash-blocks (d .zones .geometry .counts) (vec-items (d .conventional)) (vec-items (d .sequential)))
+flash-state d = drive (table-of (d .zones)) (flash-store d)
 
 -- ---- new drives
 
@@ -71,8 +80,14 @@ areas-checked c fit = cond (within c) (cond fit (Ok tt) (Err Input.Length)) (Err
 abbrev pub new-drive : Counts → Bool → Blocks → State
 new-drive c fit bs = cond (within c && fit) (drive (new-table c) bs) (drive (new-table none) [])
 
+abbrev pub magnetic-blocks : Counts → List ℕ → Blocks
+magnetic-blocks c area = blocks-in (c .zones) (c .blocks) (c .bytes) area
+
 abbrev pub magnetic-fits : Counts → List ℕ → Bool
 magnetic-fits c area = is-area c (c .zones) area
+
+abbrev pub flash-blocks : Counts → List ℕ → List ℕ → Blocks
+flash-blocks c conventional sequential = blocks-in (c .conventional) (c .blocks) (c .bytes) conventional ++ blocks-in (c .zones - c .conventional) (c .blocks) (c .bytes) sequential
 
 abbrev pub flash-fits : Counts → List ℕ → List ℕ → Bool
 flash-fits c conventional sequential = is-area c (c .conventional) conventional && is-area c (c .zones - c .conventional) sequential

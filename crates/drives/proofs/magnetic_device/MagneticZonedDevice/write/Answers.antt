@@ -1,0 +1,35 @@
+use mathlib.Core.Path.{_≡_, sym, ap, _∙_}
+use native.Mathlib.Omega.{arith}
+use lib.ListN.{length}
+use Rattle.std.proofs.shelf.Results.{err-from-errBy}
+use Rattle.std.specs.declared.result.Result.the-variants.{Ok}
+use Rattle.zoned.specs.Commands.{write}
+use Rattle.drives.specs.Areas.{area-blocks}
+use Rattle.drives.specs.Drives.{drive}
+use Rattle.drives.specs.Table.{table-of}
+use Rattle.drives.proofs.States.{accepted-inside, named, kept-outcome, stored-outcome}
+use Rattle.drives.proofs.magnetic_device.MagneticZonedDevice.write.Needs as need
+
+pub returns-in-Break-write : need.returns-in-Break-write
+returns-in-Break-write c =
+    let d = c .args .self .now in
+    let x = write (c .args .zone .0) (c .args .place .0) (c .args .block .now) in
+    let p = err-from-errBy (c .from-residual .result) (c .from-residual .ensures .1) in
+    rw (p .1, p .2) (kept-outcome (table-of (d .zones)) (table-of (c .write .last .self)) (area-blocks (d .area)) x (c .in-Break-write .field-0 .0) (c .in-Break-write .ensures tt .outcome))
+
+pub put-requires : need.put-requires
+put-requires c κs =
+    let d = c .args .self .now in
+    let z = c .args .zone .0 in
+    let p = c .args .place .0 in
+    let i = accepted-inside (table-of (d .zones)) (table-of (c .write .last .self)) (write z p (c .args .block .now)) (c .in-Continue-write .ensures tt .outcome) in
+    let n = named (d .zones .geometry .counts) z p (length (c .args .block .now)) i in
+    let f = d .fits in
+    record { zone = omega arith; place = omega arith; bytes = omega arith }
+
+pub returns : need.returns
+returns c =
+    let d = c .args .self .now in
+    let x = write (c .args .zone .0) (c .args .place .0) (c .args .block .now) in
+    let u = table-of (c .write .last .self) in
+    stored-outcome (table-of (d .zones)) u (area-blocks (d .area)) x (c .in-Continue-write .ensures tt .outcome) ∙ ap (λ bs. (Ok tt, drive u bs)) (sym (c .put .ensures .blocks))
