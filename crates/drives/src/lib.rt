@@ -5,7 +5,7 @@ pub mod blocks;
 pub mod counting;
 pub mod flash;
 pub mod flash_areas;
-// pub mod flash_device;
+pub mod flash_device;
 pub mod machine;
 pub mod magnetic;
 pub mod magnetic_device;

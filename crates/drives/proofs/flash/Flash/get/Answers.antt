@@ -9,11 +9,11 @@ returns-then-zone-first c =
     let d = c .args .self .now in
     let n = d .zones .geometry .counts .conventional in
     c .get .ensures
-    ∙ sym (block-first (area-blocks (d .conventional)) (area-blocks (d .sequential)) n (c .args .zone .0) (c .args .place .0) (area-shaped (d .conventional) .by-zone ∙ d .«conventional_fits» .0) (c .if-zone-first .taken))
+    ∙ sym (block-first (area-blocks (d .conventional)) (area-blocks (d .sequential)) n (c .args .zone .0) (c .args .place .0) (area-shaped (d .conventional) n _ _ (d .«conventional_fits») .by-zone) (c .if-zone-first .taken))
 
 pub returns-else-zone-first : need.returns-else-zone-first
 returns-else-zone-first c =
     let d = c .args .self .now in
     let n = d .zones .geometry .counts .conventional in
     c .get-else-zone-first .ensures
-    ∙ sym (block-second (area-blocks (d .conventional)) (area-blocks (d .sequential)) n (c .args .zone .0) (c .args .place .0) (area-shaped (d .conventional) .by-zone ∙ d .«conventional_fits» .0) (c .if-zone-first .left))
+    ∙ sym (block-second (area-blocks (d .conventional)) (area-blocks (d .sequential)) n (c .args .zone .0) (c .args .place .0) (area-shaped (d .conventional) n _ _ (d .«conventional_fits») .by-zone) (c .if-zone-first .left))

@@ -9,12 +9,12 @@ pub returns-then-zone-first : need.returns-then-zone-first
 returns-then-zone-first c =
     let d = c .args .self .now in
     let n = d .zones .geometry .counts .conventional in
-    let e = put-first (area-blocks (d .conventional)) (area-blocks (d .sequential)) n (c .args .zone .0) (c .args .place .0) (area-shaped (d .conventional) .by-zone ∙ d .«conventional_fits» .0) (c .args .block .now) (c .if-zone-first .taken) in
+    let e = put-first (area-blocks (d .conventional)) (area-blocks (d .sequential)) n (c .args .zone .0) (c .args .place .0) (area-shaped (d .conventional) n _ _ (d .«conventional_fits») .by-zone) (c .args .block .now) (c .if-zone-first .taken) in
     record { blocks = ap (λ bs. bs ++ area-blocks (d .sequential)) (c .put .ensures .blocks) ∙ sym e; zones = refl }
 
 pub returns-else-zone-first : need.returns-else-zone-first
 returns-else-zone-first c =
     let d = c .args .self .now in
     let n = d .zones .geometry .counts .conventional in
-    let e = put-second (area-blocks (d .conventional)) (area-blocks (d .sequential)) n (c .args .zone .0) (c .args .place .0) (area-shaped (d .conventional) .by-zone ∙ d .«conventional_fits» .0) (c .args .block .now) (c .if-zone-first .left) in
+    let e = put-second (area-blocks (d .conventional)) (area-blocks (d .sequential)) n (c .args .zone .0) (c .args .place .0) (area-shaped (d .conventional) n _ _ (d .«conventional_fits») .by-zone) (c .args .block .now) (c .if-zone-first .left) in
     record { blocks = ap (λ bs. area-blocks (d .conventional) ++ bs) (c .put-else-zone-first .ensures .blocks) ∙ sym e; zones = refl }

@@ -1,0 +1,9 @@
+use Rattle.drives.specs.Drives.{flash-store}
+use Rattle.drives.specs.Table.{table-of}
+use Rattle.drives.proofs.States.{managed-outcome}
+use Rattle.drives.proofs.flash_device.FlashZonedDevice.manage.Needs as need
+
+pub returns : need.returns
+returns c =
+    let d = c .args .self .now in
+    managed-outcome (table-of (d .zones)) (table-of (c .manage .last .self)) (flash-store d) (c .args .action) (c .args .zone .0) (c .manage .result) (c .manage .ensures .outcome)

@@ -1,0 +1,43 @@
+use mathlib.Core.Path.{sym, _∙_}
+use lib.ListN.{length}
+use Rattle.std.proofs.shelf.Results.{err-from-errBy}
+use Rattle.zoned.specs.Commands.{read}
+use Rattle.drives.specs.Drives.{flash-store}
+use Rattle.drives.specs.Table.{table-of}
+use Rattle.drives.proofs.States.{accepted-inside, named, kept-outcome, kept-buffer, stored-outcome, fetched-buffer}
+use Rattle.drives.proofs.flash_device.FlashZonedDevice.read.Needs as need
+
+pub returns-in-Break-read : need.returns-in-Break-read
+returns-in-Break-read c =
+    let d = c .args .self .now in
+    let t = table-of (d .zones) in
+    let u = table-of (c .read .last .self) in
+    let bs = flash-store d in
+    let found = c .args .buffer .now in
+    let h = c .in-Break-read .ensures tt .outcome in
+    let p = err-from-errBy (c .from-residual .result) (c .from-residual .ensures .1) in
+    record {
+      outcome = rw (p .1, p .2) (kept-outcome t u bs (read (c .args .zone .0) (c .args .place .0) (length found)) (c .in-Break-read .field-0 .0) h);
+      buffer = sym (kept-buffer t u bs (c .args .zone .0) (c .args .place .0) found (c .in-Break-read .field-0 .0) h) }
+
+pub get-requires : need.get-requires
+get-requires c κs =
+    let d = c .args .self .now in
+    let z = c .args .zone .0 in
+    let p = c .args .place .0 in
+    let i = accepted-inside (table-of (d .zones)) (table-of (c .read .last .self)) (read z p (length (c .args .buffer .now))) (c .in-Continue-read .ensures tt .outcome) in
+    let n = named (d .zones .geometry .counts) z p (length (c .args .buffer .now)) i in
+    let g = c .in-Continue-read .ensures tt .geometry in
+    record { zone = rw g (n .zone); place = rw g (n .place); bytes = rw g (n .bytes) }
+
+pub returns : need.returns
+returns c =
+    let d = c .args .self .now in
+    let t = table-of (d .zones) in
+    let u = table-of (c .read .last .self) in
+    let bs = flash-store d in
+    let found = c .args .buffer .now in
+    let h = c .in-Continue-read .ensures tt .outcome in
+    record {
+      outcome = stored-outcome t u bs (read (c .args .zone .0) (c .args .place .0) (length found)) h;
+      buffer = c .get .ensures ∙ sym (fetched-buffer t u bs (c .args .zone .0) (c .args .place .0) found h) }

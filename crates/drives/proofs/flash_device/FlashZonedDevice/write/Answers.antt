@@ -1,0 +1,34 @@
+use mathlib.Core.Path.{sym, ap₂, _∙_}
+use lib.ListN.{length}
+use Rattle.std.proofs.shelf.Results.{err-from-errBy}
+use Rattle.std.specs.declared.result.Result.the-variants.{Ok}
+use Rattle.zoned.specs.Commands.{write}
+use Rattle.drives.specs.Drives.{drive, flash-store}
+use Rattle.drives.specs.Table.{table-of}
+use Rattle.drives.proofs.States.{accepted-inside, named, kept-outcome, stored-outcome}
+use Rattle.drives.proofs.flash_device.FlashZonedDevice.write.Needs as need
+
+pub returns-in-Break-write : need.returns-in-Break-write
+returns-in-Break-write c =
+    let d = c .args .self .now in
+    let x = write (c .args .zone .0) (c .args .place .0) (c .args .block .now) in
+    let p = err-from-errBy (c .from-residual .result) (c .from-residual .ensures .1) in
+    rw (p .1, p .2) (kept-outcome (table-of (d .zones)) (table-of (c .write .last .self)) (flash-store d) x (c .in-Break-write .field-0 .0) (c .in-Break-write .ensures tt .outcome))
+
+pub put-requires : need.put-requires
+put-requires c κs =
+    let d = c .args .self .now in
+    let z = c .args .zone .0 in
+    let p = c .args .place .0 in
+    let i = accepted-inside (table-of (d .zones)) (table-of (c .write .last .self)) (write z p (c .args .block .now)) (c .in-Continue-write .ensures tt .outcome) in
+    let n = named (d .zones .geometry .counts) z p (length (c .args .block .now)) i in
+    let g = c .in-Continue-write .ensures tt .geometry in
+    record { zone = rw g (n .zone); place = rw g (n .place); bytes = rw g (n .bytes) }
+
+pub returns : need.returns
+returns c =
+    let d = c .args .self .now in
+    let x = write (c .args .zone .0) (c .args .place .0) (c .args .block .now) in
+    let u = table-of (c .write .last .self) in
+    stored-outcome (table-of (d .zones)) u (flash-store d) x (c .in-Continue-write .ensures tt .outcome) 
+    ∙ sym (ap₂ (λ t bs. (Ok tt, drive (table-of t) bs)) (c .put .ensures .zones) (c .put .ensures .blocks))
