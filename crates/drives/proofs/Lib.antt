@@ -1,5 +1,6 @@
 pub mod Within
 pub mod Passing
+pub mod Checked
 pub mod Fresh
 pub mod Joined
 pub mod Pieces

@@ -32,8 +32,11 @@ magnetic-table d = table-of (d .zones)
 abbrev pub magnetic-report : Magnetic → Report
 magnetic-report d = table-of (d .zones) .told
 
+abbrev pub magnetic-store : Magnetic → Blocks
+magnetic-store d = area-blocks (d .area)
+
 abbrev pub magnetic-state : Magnetic → State
-magnetic-state d = drive (table-of (d .zones)) (area-blocks (d .area))
+magnetic-state d = drive (table-of (d .zones)) (magnetic-store d)
 
 -- ---- the flash drive: its two sorts of zones in two areas
 
@@ -76,9 +79,13 @@ is-area c k area = eqb (length area) (k * c .blocks * c .bytes)
 abbrev pub areas-checked : Counts → Bool → Result Unit InputRefusal
 areas-checked c fit = cond (within c) (cond fit (Ok tt) (Err Input.Length)) (Err Input.Geometry)
 
--- what areas make of a drive: with counts or areas that the check refuses, no zones
-abbrev pub new-drive : Counts → Bool → Blocks → State
-new-drive c fit bs = cond (within c && fit) (drive (new-table c) bs) (drive (new-table none) [])
+-- the counts of a drive that is made of counts and areas: with those that the check refuses, it has no zones
+abbrev pub taken : Counts → Bool → Counts
+taken c fit = cond (within c && fit) c none
+
+-- its blocks are as the areas hold
+abbrev pub held : Counts → Bool → Blocks → Blocks
+held c fit bs = cond (within c && fit) bs []
 
 abbrev pub magnetic-blocks : Counts → List ℕ → Blocks
 magnetic-blocks c area = blocks-in (c .zones) (c .blocks) (c .bytes) area

@@ -30,20 +30,7 @@ fits-small c e = ⊎-elim (within-small c) (none-small c) (or-cases (within c) (
 
 -- a pointer lies within its zone
 pub possible-pointer : (t : Bool) (n : ℕ) (k : Condition) (p : ℕ) → possible t n k p ≡ true → p ≤ n
-possible-pointer true n Plain p e = grind (arith, tells)
-possible-pointer true n Empty p e = grind (arith, tells)
-possible-pointer true n Open p e = grind (arith, tells)
-possible-pointer true n Closed p e = grind (arith, tells)
-possible-pointer true n ReadOnly p e = grind (arith, tells)
-possible-pointer true n Full p e = grind (arith, tells)
-possible-pointer true n Offline p e = grind (arith, tells)
-possible-pointer false n Plain p e = grind (arith, tells)
-possible-pointer false n Empty p e = grind (arith, tells)
-possible-pointer false n Open p e = grind (arith, tells)
-possible-pointer false n Closed p e = grind (arith, tells)
-possible-pointer false n ReadOnly p e = grind (arith, tells)
-possible-pointer false n Full p e = grind (arith, tells)
-possible-pointer false n Offline p e = grind (arith, tells)
+possible-pointer t n k p e = grind (arith, tells)
 
 pub pointer-within : (r : Report) → Lawful r → (z : ℕ) → z < r .counts .zones → zone-at r z .pointer ≤ r .counts .blocks
 pointer-within r l z h = possible-pointer (is-conventional (r .counts) z) (r .counts .blocks) (zone-at r z .condition) (zone-at r z .pointer) (l .states z h)

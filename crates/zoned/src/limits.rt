@@ -1,7 +1,7 @@
 ghost use mathlib.Core.Path.{_≡_};
 ghost use Prim.Native.Nat.{ℕ, _+_, _-_, _*_, _<_, _≤_};
 ghost use Rattle.std.specs.Options.{Cases as BySome};
-ghost use Rattle.zoned.specs.Limits.{within, checked, kept, chunk-count, buffer-count, is-conventional};
+ghost use Rattle.zoned.specs.Limits.{none as no-counts, within, checked, kept, chunk-count, buffer-count, is-conventional};
 ghost use Rattle.zoned.specs.Blocks.{located, Located};
 use crate::counts::Counts;
 use crate::geometry::Geometry;
@@ -44,9 +44,16 @@ impl Geometry {
     pub fn new(counts: Counts) -> Geometry
         ensures { λ r. ⌜ r .counts ≡ kept counts ⌝ }
     {
-        if counts.within() {
-            return Geometry { counts };
+        if !counts.within() {
+            return Geometry::none();
         }
+        Geometry { counts }
+    }
+
+    // The geometry of a drive with no zone and no chunk.
+    pub fn none() -> Geometry
+        ensures { λ r. ⌜ r .counts ≡ no-counts ⌝ }
+    {
         Geometry { counts: Counts { zones: 0, conventional: 0, blocks: 0, bytes: 0, open_limit: 0, reserve: 0 } }
     }
 

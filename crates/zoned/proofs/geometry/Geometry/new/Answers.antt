@@ -1,6 +1,4 @@
-use mathlib.Core.Path.{refl, sym}
-use native.Mathlib.Omega.{arith}
-use borrow.Author.Needs.{needs}
+use mathlib.Core.Path.{sym}
 use Rattle.std.proofs.shelf.Tests.{or-left}
 use Rattle.zoned.specs.Limits.{within, is-none}
 use Rattle.zoned.proofs.Bounds.{within-small}
@@ -8,9 +6,6 @@ use Rattle.zoned.proofs.geometry.Geometry.new.Needs as need
 
 pub ghost-result : need.ghost-result
 ghost-result c =
-    let t = sym (c .if-within .ensures tt) in
+    let t = sym (c .if-not-within .ensures tt) in
     let s = within-small (c .args .counts) t in
     (or-left (within (c .args .counts)) (is-none (c .args .counts)) t, (s .zones, (s .blocks, (s .bytes, tt))))
-
-pub ghost-result-2 : need.ghost-result-2
-ghost-result-2 c = (refl, (omega arith, (omega arith, (omega arith, tt))))
