@@ -1,5 +1,5 @@
 -- From the zones of a drive to the whole drive.
-use mathlib.Core.Path.{_≡_, ap, _∙_}
+use mathlib.Core.Path.{_≡_, sym, ap, _∙_}
 use mathlib.Core.Bool.{false}
 use mathlib.Core.List.{List}
 use Prim.Native.Nat.{ℕ, _<_}
@@ -29,23 +29,30 @@ ok-verdict v e = grind arith
 err-blocks : (bs : Blocks) (c : Command) (v : Verdict) (e : DeviceRefusal) → answer v ≡ Err e → blocks-after bs c v ≡ bs
 err-blocks bs c v e h = grind arith
 
--- a command that is turned away or faults keeps the bytes
-pub kept-outcome : (t u : Table) (bs : Blocks) (c : Command) (e : DeviceRefusal) → table-outcome t c ≡ (Err e, u) → outcome (drive t bs) c ≡ (Err e, drive u bs)
-kept-outcome t u bs c e h =
-    let a : answer (table-verdict t c) ≡ Err e = ap (λ x. x .0) h in
-    drive-outcome t u bs c (Err e) h ∙ ap (λ b. (Err e, drive u b)) (err-blocks bs c (table-verdict t c) e a)
+-- the blocks after a command, where they are what the verdict leaves
+pub drive-written : (t u : Table) (bs cs : Blocks) (c : Command) (r : Result Unit DeviceRefusal) → table-outcome t c ≡ (r, u) → cs ≡ blocks-after bs c (table-verdict t c)
+    → outcome (drive t bs) c ≡ (r, drive u cs)
+drive-written t u bs cs c r e b = drive-outcome t u bs c r e ∙ ap (λ x. (r, drive u x)) (sym b)
 
--- a command that is accepted stores them
-pub stored-outcome : (t u : Table) (bs : Blocks) (c : Command) → table-outcome t c ≡ (Ok tt, u) → outcome (drive t bs) c ≡ (Ok tt, drive u (stored bs c))
-stored-outcome t u bs c h =
-    let a : answer (table-verdict t c) ≡ Ok tt = ap (λ x. x .0) h in
-    drive-outcome t u bs c (Ok tt) h ∙ ap (λ v. (Ok tt, drive u (blocks-after bs c v))) (ok-verdict (table-verdict t c) a)
+-- a command that is turned away or faults keeps the blocks
+pub kept-blocks : (t u : Table) (bs : Blocks) (c : Command) (e : DeviceRefusal) → table-outcome t c ≡ (Err e, u) → blocks-after bs c (table-verdict t c) ≡ bs
+kept-blocks t u bs c e h = err-blocks bs c (table-verdict t c) e (ap (λ x. x .0) h)
+
+-- a command that is accepted stores its bytes
+pub stored-blocks : (t u : Table) (bs : Blocks) (c : Command) → table-outcome t c ≡ (Ok tt, u) → blocks-after bs c (table-verdict t c) ≡ stored bs c
+stored-blocks t u bs c h = ap (blocks-after bs c) (ok-verdict (table-verdict t c) (ap (λ x. x .0) h))
+
+read-blocks : (bs : Blocks) (z p n : ℕ) (v : Verdict) → blocks-after bs (read z p n) v ≡ bs
+read-blocks bs z p n v = grind arith
+
+pub read-outcome : (t u : Table) (bs : Blocks) (z p n : ℕ) (r : Result Unit DeviceRefusal) → table-outcome t (read z p n) ≡ (r, u) → outcome (drive t bs) (read z p n) ≡ (r, drive u bs)
+read-outcome t u bs z p n r e = drive-written t u bs bs (read z p n) r e (sym (read-blocks bs z p n (table-verdict t (read z p n))))
 
 managed-blocks : (bs : Blocks) (a : Action) (z : ℕ) (v : Verdict) → blocks-after bs (manage a z) v ≡ bs
 managed-blocks bs a z v = grind arith
 
 pub managed-outcome : (t u : Table) (bs : Blocks) (a : Action) (z : ℕ) (r : Result Unit DeviceRefusal) → table-outcome t (manage a z) ≡ (r, u) → outcome (drive t bs) (manage a z) ≡ (r, drive u bs)
-managed-outcome t u bs a z r e = drive-outcome t u bs (manage a z) r e ∙ ap (λ b. (r, drive u b)) (managed-blocks bs a z (table-verdict t (manage a z)))
+managed-outcome t u bs a z r e = drive-written t u bs bs (manage a z) r e (sym (managed-blocks bs a z (table-verdict t (manage a z))))
 
 -- a command that is accepted names a block of the drive
 pub accepted-inside : (t u : Table) (c : Command) → table-outcome t c ≡ (Ok tt, u) → outside (t .told .counts) c ≡ false

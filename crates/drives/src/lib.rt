@@ -13,5 +13,4 @@ pub mod making;
 pub mod questions;
 pub mod steps;
 pub mod table;
-pub mod tripping;
 pub mod trips;

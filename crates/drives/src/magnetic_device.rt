@@ -1,7 +1,10 @@
 ghost use mathlib.Core.Path.{_≡_};
-ghost use Rattle.drives.specs.Drives.{magnetic-report, magnetic-state, magnetic-table};
+ghost use lib.ListN.{length};
+ghost use Rattle.drives.specs.Drives.{magnetic-report, magnetic-state, magnetic-store, magnetic-table, trip-set};
+ghost use Rattle.drives.specs.Table.{table-outcome, table-verdict};
+ghost use Rattle.zoned.specs.Commands.{manage as managing, read as reading, write as writing};
+ghost use Rattle.zoned.specs.Rules.{blocks-after, buffer-after, outcome};
 use crate::magnetic::Magnetic;
-use crate::tripping::Tripping;
 use crate::trips::Trip;
 use zoned::commands::Action;
 use zoned::conditions::ZoneState;
@@ -25,20 +28,34 @@ pub impl Reporter for Magnetic as MagneticReporter {
     }
 }
 
+// Besides what every device promises, each command says what it leaves of the zones with their trips, and of the blocks.
 pub impl ZonedDevice for Magnetic as MagneticZonedDevice {
     ghost state = { magnetic-state };
 
-    fn manage(&mut self, zone: Zone, action: Action) -> Result<(), DeviceRefusal> {
+    fn manage(&mut self, zone: Zone, action: Action) -> Result<(), DeviceRefusal>
+        ensures outcome { λ r. ⌜ outcome (magnetic-state (now (self .entry))) (managing action (zone .0)) ≡ (r, magnetic-state (now (self .exit))) ⌝ }
+        ensures zones { λ r. ⌜ table-outcome (magnetic-table (now (self .entry))) (managing action (zone .0)) ≡ (r, magnetic-table (now (self .exit))) ⌝ }
+        ensures store { λ _. ⌜ magnetic-store (now (self .exit)) ≡ magnetic-store (now (self .entry)) ⌝ }
+    {
         self.zones.manage(zone, action)
     }
 
-    fn write(&mut self, zone: Zone, place: Place, block: &[u8]) -> Result<(), DeviceRefusal> {
+    fn write(&mut self, zone: Zone, place: Place, block: &[u8]) -> Result<(), DeviceRefusal>
+        ensures outcome { λ r. ⌜ outcome (magnetic-state (now (self .entry))) (writing (zone .0) (place .0) (now (block .entry))) ≡ (r, magnetic-state (now (self .exit))) ⌝ }
+        ensures zones { λ r. ⌜ table-outcome (magnetic-table (now (self .entry))) (writing (zone .0) (place .0) (now (block .entry))) ≡ (r, magnetic-table (now (self .exit))) ⌝ }
+        ensures store { λ _. ⌜ magnetic-store (now (self .exit)) ≡ blocks-after (magnetic-store (now (self .entry))) (writing (zone .0) (place .0) (now (block .entry))) (table-verdict (magnetic-table (now (self .entry))) (writing (zone .0) (place .0) (now (block .entry)))) ⌝ }
+    {
         self.zones.write(zone, place, block)?;
         self.area.put(zone, place, block);
         Ok(())
     }
 
-    fn read(&mut self, zone: Zone, place: Place, buffer: &mut [u8]) -> Result<(), DeviceRefusal> {
+    fn read(&mut self, zone: Zone, place: Place, buffer: &mut [u8]) -> Result<(), DeviceRefusal>
+        ensures outcome { λ r. ⌜ outcome (magnetic-state (now (self .entry))) (reading (zone .0) (place .0) (length (now (buffer .entry)))) ≡ (r, magnetic-state (now (self .exit))) ⌝ }
+        ensures buffer { λ _. ⌜ now (buffer .exit) ≡ buffer-after (magnetic-state (now (self .entry))) (zone .0) (place .0) (now (buffer .entry)) ⌝ }
+        ensures zones { λ r. ⌜ table-outcome (magnetic-table (now (self .entry))) (reading (zone .0) (place .0) (length (now (buffer .entry)))) ≡ (r, magnetic-table (now (self .exit))) ⌝ }
+        ensures store { λ _. ⌜ magnetic-store (now (self .exit)) ≡ magnetic-store (now (self .entry)) ⌝ }
+    {
         self.zones.read(zone, place, buffer.len())?;
         self.area.get(zone, place, buffer);
         Ok(())
@@ -49,10 +66,12 @@ pub impl ZonedDevice for Magnetic as MagneticZonedDevice {
     }
 }
 
-pub impl Tripping for Magnetic as MagneticTripping {
-    ghost table = { magnetic-table };
-
-    fn set_trip(&mut self, zone: Zone, trip: Trip) -> Result<(), InputRefusal> {
+impl Magnetic {
+    // Gives a zone a trip, in place of the one that it has.
+    pub fn set_trip(&mut self, zone: Zone, trip: Trip) -> Result<(), InputRefusal>
+        ensures zones { λ r. ⌜ trip-set (magnetic-table (now (self .entry))) (zone .0) trip ≡ (r, magnetic-table (now (self .exit))) ⌝ }
+        ensures store { λ _. ⌜ magnetic-store (now (self .exit)) ≡ magnetic-store (now (self .entry)) ⌝ }
+    {
         self.zones.set_trip(zone, trip)
     }
 }

@@ -1,3 +1,4 @@
+use mathlib.Core.Path.{refl}
 use Rattle.drives.specs.Drives.{flash-store}
 use Rattle.drives.specs.Table.{table-of}
 use Rattle.drives.proofs.States.{managed-outcome}
@@ -6,4 +7,7 @@ use Rattle.drives.proofs.flash_device.FlashZonedDevice.manage.Needs as need
 pub returns : need.returns
 returns c =
     let d = c .args .self .now in
-    managed-outcome (table-of (d .zones)) (table-of (c .manage .last .self)) (flash-store d) (c .args .action) (c .args .zone .0) (c .manage .result) (c .manage .ensures .outcome)
+    record {
+      outcome = managed-outcome (table-of (d .zones)) (table-of (c .manage .last .self)) (flash-store d) (c .args .action) (c .args .zone .0) (c .manage .result) (c .manage .ensures .outcome);
+      zones = c .manage .ensures .outcome;
+      store = refl }

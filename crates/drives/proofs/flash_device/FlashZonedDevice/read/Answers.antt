@@ -1,10 +1,11 @@
-use mathlib.Core.Path.{sym, _∙_}
+use mathlib.Core.Path.{_≡_, refl, sym, ap, _∙_}
+use native.Mathlib.Omega.{arith}
 use lib.ListN.{length}
 use Rattle.std.proofs.shelf.Results.{err-from-errBy}
 use Rattle.zoned.specs.Commands.{read}
 use Rattle.drives.specs.Drives.{flash-store}
 use Rattle.drives.specs.Table.{table-of}
-use Rattle.drives.proofs.States.{accepted-inside, named, kept-outcome, kept-buffer, stored-outcome, fetched-buffer}
+use Rattle.drives.proofs.States.{accepted-inside, named, read-outcome, kept-buffer, fetched-buffer}
 use Rattle.drives.proofs.flash_device.FlashZonedDevice.read.Needs as need
 
 pub returns-in-Break-read : need.returns-in-Break-read
@@ -17,8 +18,10 @@ returns-in-Break-read c =
     let h = c .in-Break-read .ensures tt .outcome in
     let p = err-from-errBy (c .from-residual .result) (c .from-residual .ensures .1) in
     record {
-      outcome = rw (p .1, p .2) (kept-outcome t u bs (read (c .args .zone .0) (c .args .place .0) (length found)) (c .in-Break-read .field-0 .0) h);
-      buffer = sym (kept-buffer t u bs (c .args .zone .0) (c .args .place .0) found (c .in-Break-read .field-0 .0) h) }
+      outcome = rw (p .1, p .2) (read-outcome t u bs (c .args .zone .0) (c .args .place .0) (length found) _ h);
+      buffer = sym (kept-buffer t u bs (c .args .zone .0) (c .args .place .0) found (c .in-Break-read .field-0 .0) h);
+      zones = rw (p .1, p .2) h;
+      store = refl }
 
 pub get-requires : need.get-requires
 get-requires c κs =
@@ -39,5 +42,7 @@ returns c =
     let found = c .args .buffer .now in
     let h = c .in-Continue-read .ensures tt .outcome in
     record {
-      outcome = stored-outcome t u bs (read (c .args .zone .0) (c .args .place .0) (length found)) h;
-      buffer = c .get .ensures ∙ sym (fetched-buffer t u bs (c .args .zone .0) (c .args .place .0) found h) }
+      outcome = read-outcome t u bs (c .args .zone .0) (c .args .place .0) (length found) _ h;
+      buffer = c .get .ensures ∙ sym (fetched-buffer t u bs (c .args .zone .0) (c .args .place .0) found h);
+      zones = h;
+      store = refl }

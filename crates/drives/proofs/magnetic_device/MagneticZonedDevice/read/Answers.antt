@@ -1,11 +1,11 @@
-use mathlib.Core.Path.{_≡_, sym, _∙_}
+use mathlib.Core.Path.{_≡_, refl, sym, ap, _∙_}
 use native.Mathlib.Omega.{arith}
 use lib.ListN.{length}
 use Rattle.std.proofs.shelf.Results.{err-from-errBy}
 use Rattle.zoned.specs.Commands.{read}
-use Rattle.drives.specs.Areas.{area-blocks}
+use Rattle.drives.specs.Drives.{magnetic-store}
 use Rattle.drives.specs.Table.{table-of}
-use Rattle.drives.proofs.States.{accepted-inside, named, kept-outcome, kept-buffer, stored-outcome, fetched-buffer}
+use Rattle.drives.proofs.States.{accepted-inside, named, read-outcome, kept-buffer, fetched-buffer}
 use Rattle.drives.proofs.magnetic_device.MagneticZonedDevice.read.Needs as need
 
 pub returns-in-Break-read : need.returns-in-Break-read
@@ -13,13 +13,15 @@ returns-in-Break-read c =
     let d = c .args .self .now in
     let t = table-of (d .zones) in
     let u = table-of (c .read .last .self) in
-    let bs = area-blocks (d .area) in
+    let bs = magnetic-store d in
     let found = c .args .buffer .now in
     let h = c .in-Break-read .ensures tt .outcome in
     let p = err-from-errBy (c .from-residual .result) (c .from-residual .ensures .1) in
     record {
-      outcome = rw (p .1, p .2) (kept-outcome t u bs (read (c .args .zone .0) (c .args .place .0) (length found)) (c .in-Break-read .field-0 .0) h);
-      buffer = sym (kept-buffer t u bs (c .args .zone .0) (c .args .place .0) found (c .in-Break-read .field-0 .0) h) }
+      outcome = rw (p .1, p .2) (read-outcome t u bs (c .args .zone .0) (c .args .place .0) (length found) _ h);
+      buffer = sym (kept-buffer t u bs (c .args .zone .0) (c .args .place .0) found (c .in-Break-read .field-0 .0) h);
+      zones = rw (p .1, p .2) h;
+      store = refl }
 
 pub get-requires : need.get-requires
 get-requires c κs =
@@ -36,9 +38,11 @@ returns c =
     let d = c .args .self .now in
     let t = table-of (d .zones) in
     let u = table-of (c .read .last .self) in
-    let bs = area-blocks (d .area) in
+    let bs = magnetic-store d in
     let found = c .args .buffer .now in
     let h = c .in-Continue-read .ensures tt .outcome in
     record {
-      outcome = stored-outcome t u bs (read (c .args .zone .0) (c .args .place .0) (length found)) h;
-      buffer = c .get .ensures ∙ sym (fetched-buffer t u bs (c .args .zone .0) (c .args .place .0) found h) }
+      outcome = read-outcome t u bs (c .args .zone .0) (c .args .place .0) (length found) _ h;
+      buffer = c .get .ensures ∙ sym (fetched-buffer t u bs (c .args .zone .0) (c .args .place .0) found h);
+      zones = h;
+      store = refl }

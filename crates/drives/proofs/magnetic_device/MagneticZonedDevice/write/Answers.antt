@@ -1,21 +1,25 @@
-use mathlib.Core.Path.{_≡_, sym, ap, _∙_}
+use mathlib.Core.Path.{_≡_, refl, sym, ap, ap₂, _∙_}
 use native.Mathlib.Omega.{arith}
 use lib.ListN.{length}
 use Rattle.std.proofs.shelf.Results.{err-from-errBy}
 use Rattle.std.specs.declared.result.Result.the-variants.{Ok}
 use Rattle.zoned.specs.Commands.{write}
-use Rattle.drives.specs.Areas.{area-blocks}
-use Rattle.drives.specs.Drives.{drive}
+use Rattle.drives.specs.Drives.{magnetic-store}
 use Rattle.drives.specs.Table.{table-of}
-use Rattle.drives.proofs.States.{accepted-inside, named, kept-outcome, stored-outcome}
+use Rattle.drives.proofs.States.{accepted-inside, named, drive-written, kept-blocks, stored-blocks}
 use Rattle.drives.proofs.magnetic_device.MagneticZonedDevice.write.Needs as need
 
 pub returns-in-Break-write : need.returns-in-Break-write
 returns-in-Break-write c =
     let d = c .args .self .now in
     let x = write (c .args .zone .0) (c .args .place .0) (c .args .block .now) in
+    let h = c .in-Break-write .ensures tt .outcome in
+    let k = kept-blocks (table-of (d .zones)) (table-of (c .write .last .self)) (magnetic-store d) x (c .in-Break-write .field-0 .0) h in
     let p = err-from-errBy (c .from-residual .result) (c .from-residual .ensures .1) in
-    rw (p .1, p .2) (kept-outcome (table-of (d .zones)) (table-of (c .write .last .self)) (area-blocks (d .area)) x (c .in-Break-write .field-0 .0) (c .in-Break-write .ensures tt .outcome))
+    record {
+      outcome = rw (p .1, p .2) (drive-written (table-of (d .zones)) (table-of (c .write .last .self)) (magnetic-store d) (magnetic-store d) x _ h (sym k));
+      zones = rw (p .1, p .2) h;
+      store = sym k }
 
 pub put-requires : need.put-requires
 put-requires c κs =
@@ -31,5 +35,7 @@ pub returns : need.returns
 returns c =
     let d = c .args .self .now in
     let x = write (c .args .zone .0) (c .args .place .0) (c .args .block .now) in
-    let u = table-of (c .write .last .self) in
-    stored-outcome (table-of (d .zones)) u (area-blocks (d .area)) x (c .in-Continue-write .ensures tt .outcome) ∙ ap (λ bs. (Ok tt, drive u bs)) (sym (c .put .ensures .blocks))
+    let t = table-of (d .zones) in
+    let h = c .in-Continue-write .ensures tt .outcome in
+    let b = c .put .ensures .blocks ∙ sym (stored-blocks t _ (magnetic-store d) x h) in
+    record { outcome = drive-written t _ (magnetic-store d) _ x _ h b; zones = h; store = b }
