@@ -1,6 +1,7 @@
 pub mod Within
 pub mod Passing
 pub mod Checked
+pub mod Tripped
 pub mod Fresh
 pub mod Joined
 pub mod Pieces

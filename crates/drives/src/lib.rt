@@ -13,4 +13,5 @@ pub mod making;
 pub mod questions;
 pub mod steps;
 pub mod table;
+pub mod trip_laws;
 pub mod trips;
