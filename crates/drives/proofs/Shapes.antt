@@ -1,5 +1,5 @@
 -- The blocks of an area, and of two areas, have the shape of the drive.
-use mathlib.Core.Path.{_≡_, sym, ap, subst, _∙_}
+use mathlib.Core.Path.{_≡_, sym, ap, _∙_}
 use mathlib.Core.Logic.{_⊎_, inl, inr}
 use mathlib.Core.List.{[], _++_}
 use Prim.Native.Nat.{ℕ, _+_, _-_, _*_, _≤_, _<_}
@@ -8,9 +8,13 @@ use lib.ListN.{length, getD}
 use Rattle.std.specs.Of.Vec.{vec-items}
 use Rattle.std.proofs.shelf.Lists.{length-append, getD-append-left, getD-append-right}
 use Rattle.std.proofs.shelf.Tests.{cases-lt}
-use Rattle.zoned.specs.Rules.{Blocks, block-at}
+use Rattle.zoned.specs.Rules.{Blocks, Shaped, block-at}
 use Rattle.drives.specs.declared.area.Area.{Area}
+use Rattle.drives.specs.declared.flash.Flash.{Flash}
+use Rattle.drives.specs.declared.magnetic.Magnetic.{Magnetic}
 use Rattle.drives.specs.Areas.{pieces, area-blocks}
+use Rattle.drives.specs.Drives.{flash-state, magnetic-state}
+use Rattle.drives.proofs.Fresh.{sorts-fit}
 use Rattle.drives.proofs.Joined.{block-first, block-second}
 use Rattle.drives.proofs.Pieces.{length-pieces, places-in, bytes-in}
 
@@ -45,3 +49,19 @@ joined-shaped xs ys k j n b s t = record {
     byte : (z p : ℕ) → z < k + j → p < n → (z < k) ⊎ (k ≤ z) → length (block-at (xs ++ ys) z p) ≡ b
     byte z p h l (inl o) = ap length (block-first xs ys k z p (s .by-zone) o) ∙ s .by-byte z p o l
     byte z p h l (inr o) = ap length (block-second xs ys k z p (s .by-zone) o) ∙ t .by-byte (z - k) p (omega arith) l
+
+pub magnetic-shaped : (d : Magnetic) → Shaped (magnetic-state d .meaning)
+magnetic-shaped d =
+    let c = d .zones .geometry .counts in
+    let s = area-shaped (d .area) (c .zones) (c .blocks) (c .bytes) (d .fits) in
+    record { by-zone = s .by-zone; by-place = s .by-place; by-byte = s .by-byte }
+
+pub flash-shaped : (d : Flash) → Shaped (flash-state d .meaning)
+flash-shaped d =
+    let c = d .zones .geometry .counts in
+    let s = area-shaped (d .conventional) (c .conventional) (c .blocks) (c .bytes) (d .«conventional_fits») in
+    let t = area-shaped (d .sequential) (c .zones - c .conventional) (c .blocks) (c .bytes) (d .«sequential_fits») in
+    let j = joined-shaped (area-blocks (d .conventional)) (area-blocks (d .sequential)) (c .conventional) (c .zones - c .conventional) (c .blocks) (c .bytes) s t in
+    let k = sorts-fit c (d .zones .geometry .limits) in
+    let e : c .conventional + (c .zones - c .conventional) ≡ c .zones = omega arith in
+    record { by-zone = rw e at (j .by-zone); by-place = rw e at (j .by-place); by-byte = rw e at (j .by-byte) }
