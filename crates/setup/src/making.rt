@@ -6,6 +6,7 @@ ghost use Rattle.std.specs.Vec.{made};
 ghost use Rattle.drives.specs.Drives.{flash-store, flash-table, magnetic-store, magnetic-table, new-table};
 ghost use Rattle.setup.specs.Drive.{script-store, script-table, zero-blocks};
 ghost use Rattle.zoned.specs.Limits.{kept};
+use crate::bytes::filled;
 use crate::drive::ScriptDrive;
 use crate::line::DriveKind;
 use crate::line::Setup;
@@ -61,7 +62,5 @@ fn zero_bytes(heap: Global, geometry: Geometry, zones: u32) -> Result<Vec<u8>, A
     requires { ⌜ zones ≤ 64 ⌝ }
     ensures { λ r. ⌜ made r (λ v. vec-items v ≡ replicate (zones * geometry .counts .blocks * geometry .counts .bytes) 0) ⌝ }
 {
-    let mut bytes = Vec::new(heap);
-    bytes.resize(zones as usize * geometry.counts.blocks as usize * geometry.counts.bytes as usize, 0)?;
-    Ok(bytes)
+    filled(heap, zones as usize * geometry.counts.blocks as usize * geometry.counts.bytes as usize, 0)
 }
