@@ -99,6 +99,9 @@ abbrev pub drilled : Model → List (List ℕ) → List ℕ
 drilled m [] = []
 drilled m (line ∷ lines) = line-answered m line .1 ++ drilled (line-answered m line .0) lines
 
+abbrev pub drill-prints : Drill → List (List ℕ) → List ℕ
+drill-prints d lines = drilled (model-of d) lines
+
 -- ---- a whole script
 
 -- the setup that a first line asks for, if it is understood

@@ -2,5 +2,6 @@
 pub mod drill;
 pub mod instruction;
 pub mod obeying;
+pub mod playing;
 pub mod printing;
 pub mod reading;
