@@ -33,7 +33,7 @@ kept bs z p n v = grind arith
 
 read-printed : (t : Table) (bs : Blocks) (z : Zone) (p : Place) (found out : List ℕ) → length found ≡ t .told .counts .bytes
     → printed (obeyed (model t bs) (To.Read z p)) out
-      ≡ (model (table-outcome t (read (z .0) (p .0) (length found)) .1) bs, out ++ read-reply (table-outcome t (read (z .0) (p .0) (length found)) .0) (buffer-after (drive t bs) (z .0) (p .0) found))
+    ≡ (model (table-outcome t (read (z .0) (p .0) (length found)) .1) bs, out ++ read-reply (table-outcome t (read (z .0) (p .0) (length found)) .0) (buffer-after (drive t bs) (z .0) (p .0) found))
 read-printed t bs z p found out e =
     ap (λ n. (model (table-outcome t (read (z .0) (p .0) n) .1) (blocks-after bs (read (z .0) (p .0) n) (table-verdict t (read (z .0) (p .0) n))), out ++ read-reply (answer (table-verdict t (read (z .0) (p .0) n))) (block-at bs (z .0) (p .0)))) (sym e)
     ∙ ap₂ (λ b x. (model (table-outcome t (read (z .0) (p .0) (length found)) .1) b, out ++ x)) (kept bs (z .0) (p .0) (length found) v) (same-reply (block-at bs (z .0) (p .0)) found v)

@@ -10,16 +10,16 @@ ghost use Rattle.setup.specs.Drive.{script-report};
 ghost use Rattle.zoned.specs.Listing.{listing as all-listed};
 use crate::drill::Drill;
 use crate::instruction::Instruction;
-use drives::trips::Trip;
-use setup::bytes::filled;
-use setup::drive::ScriptDrive;
-use setup::drive::ScriptDriveReporter;
-use setup::drive::ScriptDriveZonedDevice;
 use crate::printing::put_answer;
 use crate::printing::put_input_answer;
 use crate::printing::put_mark;
 use crate::printing::put_read;
 use crate::printing::put_threes;
+use drives::trips::Trip;
+use setup::bytes::filled;
+use setup::drive::ScriptDrive;
+use setup::drive::ScriptDriveReporter;
+use setup::drive::ScriptDriveZonedDevice;
 use std::alloc::AllocError;
 use zoned::commands::Action;
 use zoned::device::Reporter;
@@ -30,7 +30,11 @@ use zoned::numbers::Zone;
 
 impl Drill {
     // Does what an instruction asks for; what it prints is added to `out`.
-    pub(crate) fn obey(&mut self, instruction: Instruction, out: &mut Vec<u8>) -> Result<(), AllocError>
+    pub(crate) fn obey(
+        &mut self,
+        instruction: Instruction,
+        out: &mut Vec<u8>,
+    ) -> Result<(), AllocError>
         ensures { λ r. ⌜ made r (λ _. printed (obeyed (model-of (now (self .entry))) instruction) (vec-items (now (out .entry))) ≡ (model-of (now (self .exit)), vec-items (now (out .exit)))) ⌝ }
     {
         match instruction {
@@ -55,7 +59,13 @@ impl Drill {
         put_answer(out, self.drive.manage(zone, action))
     }
 
-    fn write(&mut self, zone: Zone, place: Place, byte: u8, out: &mut Vec<u8>) -> Result<(), AllocError>
+    fn write(
+        &mut self,
+        zone: Zone,
+        place: Place,
+        byte: u8,
+        out: &mut Vec<u8>,
+    ) -> Result<(), AllocError>
         ensures { λ r. ⌜ made r (λ _. printed (obeyed (model-of (now (self .entry))) (To.Write zone place byte)) (vec-items (now (out .entry))) ≡ (model-of (now (self .exit)), vec-items (now (out .exit)))) ⌝ }
     {
         let bytes = self.drive.geometry().counts.bytes;
@@ -71,7 +81,13 @@ impl Drill {
         self.read_into(zone, place, &mut buffer, out)
     }
 
-    fn read_into(&mut self, zone: Zone, place: Place, buffer: &mut [u8], out: &mut Vec<u8>) -> Result<(), AllocError>
+    fn read_into(
+        &mut self,
+        zone: Zone,
+        place: Place,
+        buffer: &mut [u8],
+        out: &mut Vec<u8>,
+    ) -> Result<(), AllocError>
         requires { ⌜ length (now buffer) ≡ bytes-of (model-of (now self)) ⌝ }
         ensures { λ r. ⌜ made r (λ _. printed (obeyed (model-of (now (self .entry))) (To.Read zone place)) (vec-items (now (out .entry))) ≡ (model-of (now (self .exit)), vec-items (now (out .exit)))) ⌝ }
     {

@@ -13,7 +13,10 @@ use zoned::refusals::DeviceRefusal;
 use zoned::refusals::InputRefusal;
 
 // `ok`, or `no` and the number.
-pub(crate) fn put_answer(out: &mut Vec<u8>, answer: Result<(), DeviceRefusal>) -> Result<(), AllocError>
+pub(crate) fn put_answer(
+    out: &mut Vec<u8>,
+    answer: Result<(), DeviceRefusal>,
+) -> Result<(), AllocError>
     ensures { λ r. ⌜ made r (λ _. vec-items (now (out .exit)) ≡ vec-items (now (out .entry)) ++ reply answer) ⌝ }
 {
     match answer {
@@ -22,7 +25,10 @@ pub(crate) fn put_answer(out: &mut Vec<u8>, answer: Result<(), DeviceRefusal>) -
     }
 }
 
-pub(crate) fn put_input_answer(out: &mut Vec<u8>, answer: Result<(), InputRefusal>) -> Result<(), AllocError>
+pub(crate) fn put_input_answer(
+    out: &mut Vec<u8>,
+    answer: Result<(), InputRefusal>,
+) -> Result<(), AllocError>
     ensures { λ r. ⌜ made r (λ _. vec-items (now (out .exit)) ≡ vec-items (now (out .entry)) ++ input-reply answer) ⌝ }
 {
     match answer {
@@ -32,7 +38,11 @@ pub(crate) fn put_input_answer(out: &mut Vec<u8>, answer: Result<(), InputRefusa
 }
 
 // The bytes read, or `no` and the number.
-pub(crate) fn put_read(out: &mut Vec<u8>, answer: Result<(), DeviceRefusal>, bytes: &[u8]) -> Result<(), AllocError>
+pub(crate) fn put_read(
+    out: &mut Vec<u8>,
+    answer: Result<(), DeviceRefusal>,
+    bytes: &[u8],
+) -> Result<(), AllocError>
     ensures { λ r. ⌜ made r (λ _. vec-items (now (out .exit)) ≡ vec-items (now (out .entry)) ++ read-reply answer (now (bytes .entry))) ⌝ }
 {
     match answer {
@@ -65,5 +75,9 @@ pub(crate) fn put_threes(out: &mut Vec<u8>, bytes: &[u8]) -> Result<(), AllocErr
 pub(crate) fn put_mark(out: &mut Vec<u8>, misused: bool) -> Result<(), AllocError>
     ensures { λ r. ⌜ made r (λ _. vec-items (now (out .exit)) ≡ vec-items (now (out .entry)) ++ mark-line misused) ⌝ }
 {
-    if misused { out.extend_from_slice(b"up\n") } else { out.extend_from_slice(b"down\n") }
+    if misused {
+        out.extend_from_slice(b"up\n")
+    } else {
+        out.extend_from_slice(b"down\n")
+    }
 }

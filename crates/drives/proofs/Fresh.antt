@@ -53,14 +53,16 @@ fresh-lawful c e =
       limits = e;
       all-zones = omega (arith, length-append a b);
       states = λ z h. state z h (cases-lt z (c .conventional));
-      few-open = omega (arith, sumBy-append opened a b, none-open (c .conventional) plain-zone refl, none-open (c .zones - c .conventional) empty-zone refl) }
+      few-open = omega (arith, sumBy-append opened a b, none-open (c .conventional) plain-zone refl, none-open (c .zones - c .conventional) empty-zone refl);
+    }
   where
     opened : ZoneState → ℕ
     opened x = cond (is-open (x .condition)) 1 0
+
     state : (z : ℕ) → z < c .zones → (z < c .conventional) ⊎ (c .conventional ≤ z) → possible-at c z (getD (new-states c) z no-zone) ≡ true
     state z h (inl k) =
-      let l : z < length (replicate (c .conventional) plain-zone) = omega (arith, length-replicate (c .conventional) plain-zone) in
-      rw (getD-append-left (replicate (c .conventional) plain-zone) (replicate (c .zones - c .conventional) empty-zone) no-zone z l, getD-replicate (c .conventional) z plain-zone no-zone k, lt-ltb z (c .conventional) k) refl
+        let l : z < length (replicate (c .conventional) plain-zone) = omega (arith, length-replicate (c .conventional) plain-zone) in
+        rw (getD-append-left (replicate (c .conventional) plain-zone) (replicate (c .zones - c .conventional) empty-zone) no-zone z l, getD-replicate (c .conventional) z plain-zone no-zone k, lt-ltb z (c .conventional) k) refl
     state z h (inr k) =
-      let l : z - c .conventional < c .zones - c .conventional = omega arith in
-      rw (getD-append-right (replicate (c .conventional) plain-zone) (replicate (c .zones - c .conventional) empty-zone) (c .conventional) z no-zone (length-replicate (c .conventional) plain-zone) k, getD-replicate (c .zones - c .conventional) (z - c .conventional) empty-zone no-zone l, le-ltb z (c .conventional) k) refl
+        let l : z - c .conventional < c .zones - c .conventional = omega arith in
+        rw (getD-append-right (replicate (c .conventional) plain-zone) (replicate (c .zones - c .conventional) empty-zone) (c .conventional) z no-zone (length-replicate (c .conventional) plain-zone) k, getD-replicate (c .zones - c .conventional) (z - c .conventional) empty-zone no-zone l, le-ltb z (c .conventional) k) refl

@@ -121,10 +121,12 @@ passes : (t : Table) (c : Command) (s : ZoneState) → Lawful (t .told) → turn
 passes t c s l e m = record {
   lawful = subst (λ u. Lawful (with-zone (t .told) (zone-of c) u)) m (subst (λ o. Lawful (report-after (t .told) c (judged o None))) e (lawful-after (t .told) c None l));
   broken-lawful = λ b. subst (λ o. Lawful (report-after (t .told) c (judged o (Some b)))) e (lawful-after (t .told) c (Some b) l);
-  outcome = ap (λ o. (answer (judged o (due trip)), table-with t c (judged o (due trip)))) e ∙ at (due trip) }
+  outcome = ap (λ o. (answer (judged o (due trip)), table-with t c (judged o (due trip)))) e ∙ at (due trip);
+}
   where
     trip : Trip
     trip = trip-at (t .trips) (zone-of c)
+
     at : (f : Option Bad) → (answer (judged None f), table-with t c (judged None f)) ≡ passed t (zone-of c) (operation-of c) s f
     at (Some b) = ap (λ m. (Err Fault, record { told = with-zone (t .told) (zone-of c) (broken (zone-at (t .told) (zone-of c)) (operation-of c) b); trips = set (t .trips) (zone-of c) (worn trip); misused = m })) (or-false (t .misused))
     at None = ap₂ (λ u m. (Ok tt, record { told = with-zone (t .told) (zone-of c) u; trips = set (t .trips) (zone-of c) (worn trip); misused = m })) m (or-false (t .misused))
@@ -134,6 +136,7 @@ asked-passes t z o p s l e = at o (machined-ok _ _ s e)
   where
     n : ℕ
     n = t .told .counts .bytes
+
     at : (o : Operation) → (turned-away (t .told) (asked z o p n) ≡ None) × (moved (t .told .counts .blocks) (zone-at (t .told) z) o ≡ s) → Passes t z o (asked z o p n) s
     at Op.Open h = passes t (asked z Op.Open p n) s l (h .0) (h .1)
     at Op.Close h = passes t (asked z Op.Close p n) s l (h .0) (h .1)

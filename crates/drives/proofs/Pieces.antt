@@ -91,7 +91,7 @@ pieces-paste : (k b : ℕ) (xs bs : List ℕ) (i : ℕ) → length bs ≡ b → 
     → pieces k b (paste xs (i * b) bs b) ≡ set (pieces k b xs) i bs
 pieces-paste k b xs bs i e h l =
     subst (λ n. pieces k n (paste xs (i * n) bs n) ≡ set (pieces k n xs) i bs) e
-      (paste-pieces k xs bs i h (subst (λ n. k * n ≤ length xs) (sym e) l))
+    (paste-pieces k xs bs i h (subst (λ n. k * n ≤ length xs) (sym e) l))
 
 -- ---- the blocks of an area of k zones of n blocks of b bytes
 

@@ -28,7 +28,8 @@ area-shape : (a : Area) → Shape (area-blocks a) (a .zones) (a .blocks) (a .byt
 area-shape a = record {
   by-zone = length-pieces (a .blocks) (a .zones) (pieces (a .zones * a .blocks) (a .bytes) (vec-items (a .cells)));
   by-place = places-in (a .zones) (a .blocks) (a .bytes) (vec-items (a .cells)) whole;
-  by-byte = bytes-in (a .zones) (a .blocks) (a .bytes) (vec-items (a .cells)) whole }
+  by-byte = bytes-in (a .zones) (a .blocks) (a .bytes) (vec-items (a .cells)) whole;
+}
   where
     whole : length (vec-items (a .cells)) ≡ a .zones * a .blocks * a .bytes
     whole = sym (a .cells .ok .0) ∙ a .whole
@@ -41,11 +42,13 @@ pub joined-shaped : (xs ys : Blocks) (k j n b : ℕ) → Shape xs k n b → Shap
 joined-shaped xs ys k j n b s t = record {
   by-zone = omega (arith, length-append xs ys);
   by-place = λ z h. place z h (cases-lt z k);
-  by-byte = λ z p h l. byte z p h l (cases-lt z k) }
+  by-byte = λ z p h l. byte z p h l (cases-lt z k);
+}
   where
     place : (z : ℕ) → z < k + j → (z < k) ⊎ (k ≤ z) → length (getD (xs ++ ys) z []) ≡ n
     place z h (inl o) = ap length (getD-append-left xs ys [] z (omega arith)) ∙ s .by-place z o
     place z h (inr o) = ap length (getD-append-right xs ys k z [] (s .by-zone) o) ∙ t .by-place (z - k) (omega arith)
+
     byte : (z p : ℕ) → z < k + j → p < n → (z < k) ⊎ (k ≤ z) → length (block-at (xs ++ ys) z p) ≡ b
     byte z p h l (inl o) = ap length (block-first xs ys k z p (s .by-zone) o) ∙ s .by-byte z p o l
     byte z p h l (inr o) = ap length (block-second xs ys k z p (s .by-zone) o) ∙ t .by-byte (z - k) p (omega arith) l

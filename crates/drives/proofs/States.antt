@@ -58,10 +58,10 @@ managed-outcome t u bs a z r e = drive-written t u bs bs (manage a z) r e (sym (
 pub accepted-inside : (t u : Table) (c : Command) → table-outcome t c ≡ (Ok tt, u) → outside (t .told .counts) c ≡ false
 accepted-inside t u c h =
     judged-by (t .told) c (due (trip-at (t .trips) _)) (λ v. answer v ≡ Ok tt → outside (t .told .counts) c ≡ false)
-      (λ e q. absurd (let z : _≡_ {A = ℕ} 0 1 = cc in omega arith))
-      (λ w b q. w .inside)
-      (λ w q. w .inside)
-      (ap (λ x. x .0) h)
+    (λ e q. absurd (let z : _≡_ {A = ℕ} 0 1 = cc in omega arith))
+    (λ w b q. w .inside)
+    (λ w q. w .inside)
+    (ap (λ x. x .0) h)
 
 -- where a block stands that an accepted write or read names
 pub record Named (c : Counts) (z p k : ℕ) : Type 0 where

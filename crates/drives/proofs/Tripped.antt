@@ -43,8 +43,9 @@ wears ts y z v k = at v (cases-eq y z)
     passed : (y ≡ z) ⊎ (y ≡ z → ⊥) → due-after (trip-at (set ts y (worn (trip-at ts y))) z) k ≡ due-after (trip-at ts z) (cond (eqb y z && true) 1 0 + k)
     passed (inl e) = rw (← e, eq-eqb y y refl) (ap (λ trip. due-after trip k) (worn-at ts y) ∙ worn-once (trip-at ts y) k)
     passed (inr n) =
-      let m : z ≢ y = λ e. n (sym e) in
-      rw (ne-eqb y z n) (ap (λ trip. due-after trip k) (getD-set-other ts y z (worn (trip-at ts y)) no-trip m) ∙ kept-trip (trip-at ts z) k)
+        let m : z ≢ y = λ e. n (sym e) in
+        rw (ne-eqb y z n) (ap (λ trip. due-after trip k) (getD-set-other ts y z (worn (trip-at ts y)) no-trip m) ∙ kept-trip (trip-at ts z) k)
+
     at : (v : Verdict) → (y ≡ z) ⊎ (y ≡ z → ⊥) → due-after (trip-at (trips-after ts y v) z) k ≡ due-after (trip-at ts z) (cond (eqb y z && passes v) 1 0 + k)
     at (turned r) e = rw (and-right (eqb y z) false refl) (kept-trip (trip-at ts z) k)
     at (faulted b) e = passed e

@@ -17,7 +17,8 @@ lawful-table t = record {
   limits = t .geometry .limits;
   all-zones = sym (t .states .ok .0) ∙ t .«all_states»;
   states = t .possible;
-  few-open = t .«few_open» }
+  few-open = t .«few_open»;
+}
 
 -- a zone's state as it is read
 pub read-state : (t : ZoneTable) (z : ℕ) (s : ZoneState) → z < t .geometry .counts .zones → s ≡ getD (vec-items (t .states)) z s → s ≡ zone-at (table-of t .told) z

@@ -69,7 +69,8 @@ abbrev pub new-table : Counts → Table
 new-table c = record {
   told = record { counts = c; zones = new-states c };
   trips = replicate (c .zones) no-trip;
-  misused = false }
+  misused = false;
+}
 
 -- an area has a byte for each byte of its k zones
 abbrev pub is-area : Counts → ℕ → List ℕ → Bool

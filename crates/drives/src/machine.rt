@@ -13,7 +13,14 @@ use zoned::refusals::DeviceRefusal;
 
 // The zone machine: what an operation at a place makes of a zone in this state, or why the zone does not take it. The drive is crowded where
 // as many zones are open as may be.
-pub(crate) fn next_state(geometry: Geometry, crowded: bool, zone: Zone, state: ZoneState, operation: Operation, place: Place) -> Result<ZoneState, DeviceRefusal>
+pub(crate) fn next_state(
+    geometry: Geometry,
+    crowded: bool,
+    zone: Zone,
+    state: ZoneState,
+    operation: Operation,
+    place: Place,
+) -> Result<ZoneState, DeviceRefusal>
     requires { ⌜ state .pointer ≤ geometry .counts .blocks ⌝ }
     ensures { λ r. ⌜ r ≡ machine-of (is-conventional (geometry .counts) (zone .0)) (geometry .counts .blocks) crowded (state .condition) (state .pointer) operation (place .0) ⌝ }
 {
@@ -26,13 +33,37 @@ pub(crate) fn next_state(geometry: Geometry, crowded: bool, zone: Zone, state: Z
         (Condition::ReadOnly, _) => Err(DeviceRefusal::Fault),
         (Condition::Plain, Operation::Write) => Ok(state),
         (Condition::Open, Operation::Open) => Ok(state),
-        (Condition::Empty | Condition::Closed, Operation::Open) if crowded => Err(DeviceRefusal::OpenLimit),
-        (Condition::Empty | Condition::Closed, Operation::Open) => Ok(ZoneState { condition: Condition::Open, pointer }),
-        (Condition::Open, Operation::Close) if pointer == 0 => Ok(ZoneState { condition: Condition::Empty, pointer }),
-        (Condition::Open, Operation::Close) => Ok(ZoneState { condition: Condition::Closed, pointer }),
-        (Condition::Empty | Condition::Open | Condition::Closed, Operation::Finish) => Ok(ZoneState { condition: Condition::Full, pointer: blocks }),
-        (Condition::Empty | Condition::Open | Condition::Closed | Condition::Full, Operation::Reset) => Ok(ZoneState { condition: Condition::Empty, pointer: 0 }),
-        (Condition::Open, Operation::Write) if place.0 == pointer => Ok(filled(blocks, pointer + 1)),
+        (Condition::Empty | Condition::Closed, Operation::Open) if crowded => Err(
+            DeviceRefusal::OpenLimit,
+        ),
+        (Condition::Empty | Condition::Closed, Operation::Open) => Ok(ZoneState {
+            condition: Condition::Open,
+            pointer,
+        }),
+        (Condition::Open, Operation::Close) if pointer == 0 => Ok(ZoneState {
+            condition: Condition::Empty,
+            pointer,
+        }),
+        (Condition::Open, Operation::Close) => Ok(ZoneState {
+            condition: Condition::Closed,
+            pointer,
+        }),
+        (Condition::Empty | Condition::Open | Condition::Closed, Operation::Finish) =>
+            Ok(ZoneState {
+                condition: Condition::Full,
+                pointer: blocks,
+            }),
+        (
+            Condition::Empty | Condition::Open | Condition::Closed | Condition::Full,
+            Operation::Reset,
+        ) => Ok(ZoneState {
+            condition: Condition::Empty,
+            pointer: 0,
+        }),
+        (Condition::Open, Operation::Write) if place.0 == pointer => Ok(filled(
+            blocks,
+            pointer + 1,
+        )),
         (Condition::Open, Operation::Write) => Err(DeviceRefusal::OffPointer),
         _ => Err(DeviceRefusal::WrongCondition),
     }
@@ -42,6 +73,10 @@ pub(crate) fn next_state(geometry: Geometry, crowded: bool, zone: Zone, state: Z
 fn filled(blocks: u32, pointer: u32) -> ZoneState
     ensures { λ r. ⌜ r ≡ filled-to blocks pointer ⌝ }
 {
-    let condition = if pointer == blocks { Condition::Full } else { Condition::Open };
+    let condition = if pointer == blocks {
+        Condition::Full
+    } else {
+        Condition::Open
+    };
     ZoneState { condition, pointer }
 }

@@ -50,7 +50,10 @@ impl Magnetic {
         ensures blocks { λ r. ⌜ made r (λ d. magnetic-store d ≡ magnetic-blocks (geometry .counts) (vec-items cells)) ⌝ }
     {
         let zones = ZoneTable::new(heap, geometry)?;
-        Ok(Magnetic { zones, area: Area::new(geometry, geometry.counts.zones, cells) })
+        Ok(Magnetic {
+            zones,
+            area: Area::new(geometry, geometry.counts.zones, cells),
+        })
     }
 }
 
@@ -67,7 +70,12 @@ impl Flash {
     }
 
     // A new drive over these areas: plain and empty zones, no trip, the mark down. With what the check refuses, a drive with no zones.
-    pub fn new(heap: Global, counts: Counts, conventional: Vec<u8>, sequential: Vec<u8>) -> Result<Flash, AllocError>
+    pub fn new(
+        heap: Global,
+        counts: Counts,
+        conventional: Vec<u8>,
+        sequential: Vec<u8>,
+    ) -> Result<Flash, AllocError>
         ensures zones { λ r. ⌜ made r (λ d. flash-table d ≡ new-table (taken counts (flash-fits counts (vec-items conventional) (vec-items sequential)))) ⌝ }
         ensures blocks { λ r. ⌜ made r (λ d. flash-store d ≡ held counts (flash-fits counts (vec-items conventional) (vec-items sequential)) (flash-blocks counts (vec-items conventional) (vec-items sequential))) ⌝ }
     {
@@ -77,7 +85,12 @@ impl Flash {
         }
     }
 
-    fn over(heap: Global, geometry: Geometry, conventional: Vec<u8>, sequential: Vec<u8>) -> Result<Flash, AllocError>
+    fn over(
+        heap: Global,
+        geometry: Geometry,
+        conventional: Vec<u8>,
+        sequential: Vec<u8>,
+    ) -> Result<Flash, AllocError>
         requires conventional { ⌜ vec-len conventional ≡ geometry .counts .conventional * geometry .counts .blocks * geometry .counts .bytes ⌝ }
         requires sequential { ⌜ vec-len sequential ≡ (geometry .counts .zones - geometry .counts .conventional) * geometry .counts .blocks * geometry .counts .bytes ⌝ }
         ensures zones { λ r. ⌜ made r (λ d. flash-table d ≡ new-table (geometry .counts)) ⌝ }
@@ -86,7 +99,11 @@ impl Flash {
         let zones = ZoneTable::new(heap, geometry)?;
         let first = geometry.counts.conventional;
         let rest = geometry.counts.zones.saturating_sub(first);
-        Ok(Flash { zones, conventional: Area::new(geometry, first, conventional), sequential: Area::new(geometry, rest, sequential) })
+        Ok(Flash {
+            zones,
+            conventional: Area::new(geometry, first, conventional),
+            sequential: Area::new(geometry, rest, sequential),
+        })
     }
 }
 
@@ -95,7 +112,12 @@ fn are_whole(geometry: Geometry, conventional: &[u8], sequential: &[u8]) -> bool
     ensures { λ r. ⌜ r ≡ flash-fits (geometry .counts) (now (conventional .entry)) (now (sequential .entry)) ⌝ }
 {
     let first = geometry.counts.conventional;
-    is_whole(geometry, first, conventional) && is_whole(geometry, geometry.counts.zones.saturating_sub(first), sequential)
+    is_whole(geometry, first, conventional)
+        && is_whole(
+            geometry,
+            geometry.counts.zones.saturating_sub(first),
+            sequential,
+        )
 }
 
 impl Area {
@@ -107,7 +129,12 @@ impl Area {
         ensures bytes { λ r. ⌜ r .bytes ≡ geometry .counts .bytes ⌝ }
         ensures cells { λ r. ⌜ r .cells ≡ cells ⌝ }
     {
-        Area { zones, blocks: geometry.counts.blocks, bytes: geometry.counts.bytes, cells }
+        Area {
+            zones,
+            blocks: geometry.counts.blocks,
+            bytes: geometry.counts.bytes,
+            cells,
+        }
     }
 }
 
@@ -127,8 +154,19 @@ impl ZoneTable {
     {
         let states = new_states(heap, geometry)?;
         let mut trips = Vec::new(heap);
-        trips.resize(geometry.counts.zones as usize, Trip { count: 0, into: Bad::Offline })?;
-        Ok(ZoneTable { geometry, states, trips, misused: false })
+        trips.resize(
+            geometry.counts.zones as usize,
+            Trip {
+                count: 0,
+                into: Bad::Offline,
+            },
+        )?;
+        Ok(ZoneTable {
+            geometry,
+            states,
+            trips,
+            misused: false,
+        })
     }
 }
 
@@ -136,7 +174,19 @@ fn new_states(heap: Global, geometry: Geometry) -> Result<Vec<ZoneState>, AllocE
     ensures { λ r. ⌜ made r (λ v. vec-items v ≡ new-states (geometry .counts)) ⌝ }
 {
     let mut states = Vec::new(heap);
-    states.resize(geometry.counts.conventional as usize, ZoneState { condition: Condition::Plain, pointer: 0 })?;
-    states.resize(geometry.counts.zones as usize, ZoneState { condition: Condition::Empty, pointer: 0 })?;
+    states.resize(
+        geometry.counts.conventional as usize,
+        ZoneState {
+            condition: Condition::Plain,
+            pointer: 0,
+        },
+    )?;
+    states.resize(
+        geometry.counts.zones as usize,
+        ZoneState {
+            condition: Condition::Empty,
+            pointer: 0,
+        },
+    )?;
     Ok(states)
 }

@@ -15,7 +15,10 @@ impl ZoneTable {
         ensures { λ r. ⌜ r ≡ zone-at (table-of (now (self .entry)) .told) (zone .0) ⌝ }
     {
         if zone.0 >= self.geometry.counts.zones {
-            return ZoneState { condition: Condition::Offline, pointer: 0 };
+            return ZoneState {
+                condition: Condition::Offline,
+                pointer: 0,
+            };
         }
         self.states[zone.0 as usize]
     }

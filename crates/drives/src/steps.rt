@@ -36,7 +36,12 @@ impl ZoneTable {
     }
 
     // A write of one block, but for its bytes.
-    pub(crate) fn write(&mut self, zone: Zone, place: Place, block: &[u8]) -> Result<(), DeviceRefusal>
+    pub(crate) fn write(
+        &mut self,
+        zone: Zone,
+        place: Place,
+        block: &[u8],
+    ) -> Result<(), DeviceRefusal>
         ensures outcome { λ r. ⌜ table-outcome (table-of (now (self .entry))) (writing (zone .0) (place .0) (now (block .entry))) ≡ (r, table-of (now (self .exit))) ⌝ }
         ensures geometry { λ _. ⌜ now (self .exit) .geometry ≡ now (self .entry) .geometry ⌝ }
     {
@@ -47,7 +52,12 @@ impl ZoneTable {
     }
 
     // A read of one block, but for its bytes.
-    pub(crate) fn read(&mut self, zone: Zone, place: Place, length: usize) -> Result<(), DeviceRefusal>
+    pub(crate) fn read(
+        &mut self,
+        zone: Zone,
+        place: Place,
+        length: usize,
+    ) -> Result<(), DeviceRefusal>
         ensures outcome { λ r. ⌜ table-outcome (table-of (now (self .entry))) (reading (zone .0) (place .0) length) ≡ (r, table-of (now (self .exit))) ⌝ }
         ensures geometry { λ _. ⌜ now (self .exit) .geometry ≡ now (self .entry) .geometry ⌝ }
     {
@@ -78,12 +88,24 @@ impl ZoneTable {
     }
 
     // What the zone machine makes of the zone.
-    fn next(&self, zone: Zone, operation: Operation, place: Place) -> Result<ZoneState, DeviceRefusal>
+    fn next(
+        &self,
+        zone: Zone,
+        operation: Operation,
+        place: Place,
+    ) -> Result<ZoneState, DeviceRefusal>
         requires { ⌜ outside (now self .geometry .counts) (asked (zone .0) operation (place .0) (now self .geometry .counts .bytes)) ≡ false ⌝ }
         ensures { λ r. ⌜ r ≡ ruled (table-of (now (self .entry)) .told) (zone .0) operation (place .0) ⌝ }
     {
         let state = self.states[zone.0 as usize];
-        next_state(self.geometry, self.is_crowded(operation), zone, state, operation, place)
+        next_state(
+            self.geometry,
+            self.is_crowded(operation),
+            zone,
+            state,
+            operation,
+            place,
+        )
     }
 
     // Whether the operation opens a zone where as many are open as may be.
@@ -92,7 +114,11 @@ impl ZoneTable {
     {
         match operation {
             Operation::Open => open_zones(&self.states) >= self.geometry.counts.open_limit as usize,
-            Operation::Close | Operation::Finish | Operation::Reset | Operation::Write | Operation::Read => false,
+            Operation::Close
+            | Operation::Finish
+            | Operation::Reset
+            | Operation::Write
+            | Operation::Read => false,
         }
     }
 
@@ -108,7 +134,12 @@ impl ZoneTable {
     }
 
     // A command that passed the checks: it faults where the zone's trip is due, else it leaves the zone in the next state.
-    fn pass(&mut self, zone: Zone, operation: Operation, next: ZoneState) -> Result<(), DeviceRefusal>
+    fn pass(
+        &mut self,
+        zone: Zone,
+        operation: Operation,
+        next: ZoneState,
+    ) -> Result<(), DeviceRefusal>
         requires within { ⌜ zone .0 < now self .geometry .counts .zones ⌝ }
         requires lawful { ⌜ Lawful (with-zone (table-of (now self) .told) (zone .0) next) ⌝ }
         requires broken { ⌜ ((b : Bad) → Lawful (with-zone (table-of (now self) .told) (zone .0) (broken (zone-at (table-of (now self) .told) (zone .0)) operation b))) ⌝ }
@@ -117,10 +148,19 @@ impl ZoneTable {
     {
         let at = zone.0 as usize;
         let trip = self.trips[at];
-        self.trips[at] = Trip { count: trip.count.saturating_sub(1), into: trip.into };
+        self.trips[at] = Trip {
+            count: trip.count.saturating_sub(1),
+            into: trip.into,
+        };
         if trip.count == 1 {
             let pointer = self.states[at].pointer;
-            self.put_state(zone, ZoneState { condition: after_fault(operation, trip.into), pointer });
+            self.put_state(
+                zone,
+                ZoneState {
+                    condition: after_fault(operation, trip.into),
+                    pointer,
+                },
+            );
             return Err(DeviceRefusal::Fault);
         }
         self.put_state(zone, next);
@@ -145,6 +185,10 @@ fn after_fault(operation: Operation, into: Bad) -> Condition
 {
     match operation {
         Operation::Read => Condition::Offline,
-        Operation::Open | Operation::Close | Operation::Finish | Operation::Reset | Operation::Write => into.condition(),
+        Operation::Open
+        | Operation::Close
+        | Operation::Finish
+        | Operation::Reset
+        | Operation::Write => into.condition(),
     }
 }

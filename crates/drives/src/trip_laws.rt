@@ -4,5 +4,4 @@ ghost use Rattle.drives.specs.Trips.{New-is-faultless, Trips-count};
 pub fn trips_alone_fault()
     ensures counts { λ _. ⌜ Trips-count ⌝ }
     ensures faultless { λ _. ⌜ New-is-faultless ⌝ }
-{
-}
+{}

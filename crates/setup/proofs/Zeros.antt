@@ -60,8 +60,10 @@ magnetic-zeros c n area e f =
   where
     all : within c ≡ true → area ≡ replicate (c .zones * c .blocks * c .bytes) 0
     all h = f ∙ ap (λ m. replicate (m .zones * m .blocks * m .bytes) 0) (e ∙ kept-within c h)
+
     fit : within c ≡ true → magnetic-fits c area ≡ true
     fit h = ap (is-area c (c .zones)) (all h) ∙ is-zero-area c (c .zones)
+
     zeros : within c ≡ true → magnetic-blocks c area ≡ zero-blocks c
     zeros h = ap (magnetic-blocks c) (all h) ∙ zeros-in (c .zones) (c .blocks) (c .bytes)
 
@@ -72,17 +74,21 @@ flash-zeros c n xs ys e f g =
   where
     rest : ℕ
     rest = c .zones - c .conventional
+
     first : within c ≡ true → xs ≡ replicate (c .conventional * c .blocks * c .bytes) 0
     first h = f ∙ ap (λ m. replicate (m .conventional * m .blocks * m .bytes) 0) (e ∙ kept-within c h)
+
     second : within c ≡ true → ys ≡ replicate (rest * c .blocks * c .bytes) 0
     second h = g ∙ ap (λ m. replicate ((m .zones - m .conventional) * m .blocks * m .bytes) 0) (e ∙ kept-within c h)
+
     fit : within c ≡ true → flash-fits c xs ys ≡ true
     fit h = and-from _ _ (ap (is-area c (c .conventional)) (first h) ∙ is-zero-area c (c .conventional)) (ap (is-area c rest) (second h) ∙ is-zero-area c rest)
+
     zeros : within c ≡ true → flash-blocks c xs ys ≡ zero-blocks c
     zeros h =
-      let k = sorts-fit c (or-left (within c) (is-none c) h) in
-      let m : c .conventional + rest ≡ c .zones = omega arith in
-      ap₂ (flash-blocks c) (first h) (second h)
-      ∙ ap₂ (λ u v. u ++ v) (zeros-in (c .conventional) (c .blocks) (c .bytes)) (zeros-in rest (c .blocks) (c .bytes))
-      ∙ replicate-append-replicate (c .conventional) rest (replicate (c .blocks) (replicate (c .bytes) 0))
-      ∙ ap (λ j. replicate j (replicate (c .blocks) (replicate (c .bytes) 0))) m
+        let k = sorts-fit c (or-left (within c) (is-none c) h) in
+        let m : c .conventional + rest ≡ c .zones = omega arith in
+        ap₂ (flash-blocks c) (first h) (second h)
+        ∙ ap₂ (λ u v. u ++ v) (zeros-in (c .conventional) (c .blocks) (c .bytes)) (zeros-in rest (c .blocks) (c .bytes))
+        ∙ replicate-append-replicate (c .conventional) rest (replicate (c .blocks) (replicate (c .bytes) 0))
+        ∙ ap (λ j. replicate j (replicate (c .blocks) (replicate (c .bytes) 0))) m

@@ -33,7 +33,17 @@ pub fn read_setup(line: &mut Fields) -> Option<Setup>
     let kind = read_kind(line)?;
     let (zones, conventional, blocks) = read_three(line)?;
     let (bytes, open_limit, reserve) = read_three(line)?;
-    Some(Setup { kind, counts: Counts { zones, conventional, blocks, bytes, open_limit, reserve } })
+    Some(Setup {
+        kind,
+        counts: Counts {
+            zones,
+            conventional,
+            blocks,
+            bytes,
+            open_limit,
+            reserve,
+        },
+    })
 }
 
 fn read_three(line: &mut Fields) -> Option<(u32, u32, u32)>
@@ -78,5 +88,7 @@ impl Setup {
 fn all_bytes(geometry: Geometry) -> usize
     ensures { λ r. ⌜ r ≡ all-bytes (geometry .counts) ⌝ }
 {
-    geometry.counts.zones as usize * geometry.counts.blocks as usize * geometry.counts.bytes as usize
+    geometry.counts.zones as usize
+        * geometry.counts.blocks as usize
+        * geometry.counts.bytes as usize
 }

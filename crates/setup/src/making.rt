@@ -62,5 +62,9 @@ fn zero_bytes(heap: Global, geometry: Geometry, zones: u32) -> Result<Vec<u8>, A
     requires { ⌜ zones ≤ 64 ⌝ }
     ensures { λ r. ⌜ made r (λ v. vec-items v ≡ replicate (zones * geometry .counts .blocks * geometry .counts .bytes) 0) ⌝ }
 {
-    filled(heap, zones as usize * geometry.counts.blocks as usize * geometry.counts.bytes as usize, 0)
+    filled(
+        heap,
+        zones as usize * geometry.counts.blocks as usize * geometry.counts.bytes as usize,
+        0,
+    )
 }

@@ -42,5 +42,5 @@ located-is c b h = at (c .blocks) refl
     at : (n : ℕ) → c .blocks ≡ n → Located c b (b / c .blocks) (b % c .blocks)
     at zero e = absurd (omega (arith, ap (λ n. chunk-count c * n) e, mul-zero (chunk-count c)))
     at (suc n) e =
-      let some : 0 < c .blocks = omega arith in
-      record { is-block = div-add-mod' b (c .blocks); place-below = mod-lt b some; chunk-below = div-lt-iff-lt-mul some .1 h }
+        let some : 0 < c .blocks = omega arith in
+        record { is-block = div-add-mod' b (c .blocks); place-below = mod-lt b some; chunk-below = div-lt-iff-lt-mul some .1 h }

@@ -43,7 +43,7 @@ not-rewritten s c z p had n = at c (verdict s c) refl n
     at x (faulted b) q m = refl
     at (manage a y) accepted q m = refl
     at (write y r b) accepted q m =
-      cond-both (eqb y z && eqb r p) b had (λ x. x ≡ had) (λ t. absurd (m (record { bytes = b; is-write = grind (arith, tells); is-accepted = q }))) (λ t. refl)
+        cond-both (eqb y z && eqb r p) b had (λ x. x ≡ had) (λ t. absurd (m (record { bytes = b; is-write = grind (arith, tells); is-accepted = q }))) (λ t. refl)
     at (read y r k) accepted q m = refl
 
 not-written : (s : State) (cs : List Command) (z p : ℕ) (had : List ℕ) → (Occurs (Writes z p) s cs → ⊥) → last-written s cs z p had ≡ had
@@ -65,7 +65,7 @@ bad-kept s (c ∷ cs) z h = at (bad-after s c z h) (bad-kept (after s c) cs z)
     at : Bad-then s (c ∷ []) z → (is-bad (zone-at (after s c .meaning .told) z .condition) ≡ true → Bad-then (after s c) cs z) → Bad-then s (c ∷ cs) z
     at (inl e) more = ⊎-map (λ f. f ∙ e) (λ w. record { was = (cc); is-now = (cc); by-a-read = inr (w .by-a-read) }) (more (rw e h))
     at (inr w) more =
-      inr (⊎-elim
+        inr (⊎-elim
         (λ f. record { was = w .was; is-now = f ∙ w .is-now; by-a-read = ⊎-elim inl (λ n. absurd n) (w .by-a-read) })
         (λ v. grind arith)
         (more (rw (w .is-now) refl)))

@@ -35,7 +35,8 @@ told-at a (s ∷ ss) (suc k) h =
     record {
       number = ap (λ i. getD (listed-from a (s ∷ ss)) i 0) n ∙ t .number ∙ m;
       code = ap (λ i. getD (listed-from a (s ∷ ss)) i 0) o ∙ t .code;
-      pointer = ap (λ i. getD (listed-from a (s ∷ ss)) i 0) p ∙ t .pointer }
+      pointer = ap (λ i. getD (listed-from a (s ∷ ss)) i 0) p ∙ t .pointer;
+    }
 
 -- the slice has the listing's bytes so far
 abbrev pub So-far : Report → List ℕ → ℕ → Type 0
@@ -46,30 +47,33 @@ one-zone-more r out z h room far k l = at (cases-lt k (z * 3)) (cases-eq k (z * 
   where
     t : Told-at 0 (r .zones) z
     t = told-at 0 (r .zones) z h
+
     code : ℕ
     code = condition-code (zone-at r z .condition)
+
     one : List ℕ
     one = set out (z * 3) z
+
     two : List ℕ
     two = set one (z * 3 + 1) code
 
     at : (k < z * 3) ⊎ (z * 3 ≤ k) → (k ≡ z * 3) ⊎ (k ≡ z * 3 → ⊥) → (k ≡ z * 3 + 1) ⊎ (k ≡ z * 3 + 1 → ⊥) → (k ≡ z * 3 + 2) ⊎ (k ≡ z * 3 + 2 → ⊥) → getD (listed-at r z out) k 0 ≡ getD (listing r) k 0
     at (inl b) x y w =
-      let n0 : k ≢ z * 3 = omega arith in
-      let n1 : k ≢ z * 3 + 1 = omega arith in
-      let n2 : k ≢ z * 3 + 2 = omega arith in
-      getD-set-other two (z * 3 + 2) k (zone-at r z .pointer) 0 n2 ∙ getD-set-other one (z * 3 + 1) k code 0 n1 ∙ getD-set-other out (z * 3) k z 0 n0 ∙ far k b
+        let n0 : k ≢ z * 3 = omega arith in
+        let n1 : k ≢ z * 3 + 1 = omega arith in
+        let n2 : k ≢ z * 3 + 2 = omega arith in
+        getD-set-other two (z * 3 + 2) k (zone-at r z .pointer) 0 n2 ∙ getD-set-other one (z * 3 + 1) k code 0 n1 ∙ getD-set-other out (z * 3) k z 0 n0 ∙ far k b
     at (inr b) (inl x) y w =
-      let n1 : k ≢ z * 3 + 1 = omega arith in
-      let n2 : k ≢ z * 3 + 2 = omega arith in
-      getD-set-other two (z * 3 + 2) k (zone-at r z .pointer) 0 n2 ∙ getD-set-other one (z * 3 + 1) k code 0 n1
+        let n1 : k ≢ z * 3 + 1 = omega arith in
+        let n2 : k ≢ z * 3 + 2 = omega arith in
+        getD-set-other two (z * 3 + 2) k (zone-at r z .pointer) 0 n2 ∙ getD-set-other one (z * 3 + 1) k code 0 n1
         ∙ ap (λ i. getD one i 0) x ∙ getD-set-same out (z * 3) z 0 (omega arith) ∙ sym (ap (λ i. getD (listing r) i 0) x ∙ t .number ∙ zero-add z)
     at (inr b) (inr x) (inl y) w =
-      let n2 : k ≢ z * 3 + 2 = omega arith in
-      let l1 : z * 3 + 1 < length one = omega (arith, length-set out (z * 3) z) in
-      getD-set-other two (z * 3 + 2) k (zone-at r z .pointer) 0 n2 ∙ ap (λ i. getD two i 0) y ∙ getD-set-same one (z * 3 + 1) code 0 l1
+        let n2 : k ≢ z * 3 + 2 = omega arith in
+        let l1 : z * 3 + 1 < length one = omega (arith, length-set out (z * 3) z) in
+        getD-set-other two (z * 3 + 2) k (zone-at r z .pointer) 0 n2 ∙ ap (λ i. getD two i 0) y ∙ getD-set-same one (z * 3 + 1) code 0 l1
         ∙ sym (ap (λ i. getD (listing r) i 0) y ∙ t .code)
     at (inr b) (inr x) (inr y) (inl w) =
-      let l2 : z * 3 + 2 < length two = omega (arith, length-set one (z * 3 + 1) code, length-set out (z * 3) z) in
-      ap (λ i. getD (listed-at r z out) i 0) w ∙ getD-set-same two (z * 3 + 2) (zone-at r z .pointer) 0 l2 ∙ sym (ap (λ i. getD (listing r) i 0) w ∙ t .pointer)
+        let l2 : z * 3 + 2 < length two = omega (arith, length-set one (z * 3 + 1) code, length-set out (z * 3) z) in
+        ap (λ i. getD (listed-at r z out) i 0) w ∙ getD-set-same two (z * 3 + 2) (zone-at r z .pointer) 0 l2 ∙ sym (ap (λ i. getD (listing r) i 0) w ∙ t .pointer)
     at (inr b) (inr x) (inr y) (inr w) = absurd (omega arith)

@@ -92,17 +92,19 @@ with-zone-lawful r z s l h m =
       limits = l .limits;
       all-zones = length-set (r .zones) z s ∙ l .all-zones;
       states = λ y k. grind (arith, getD-set-same, getD-set-other, cases-eq y z, l .states y k);
-      few-open = omega (arith, sumBy-set opened (r .zones) z s no-zone inside) }
+      few-open = omega (arith, sumBy-set opened (r .zones) z s no-zone inside);
+    }
 
 pub lawful-after : (r : Report) (c : Command) (f : Option Bad) → Lawful r → Lawful (report-after r c (judged (turned-away r c) f))
 lawful-after r c f l =
     judged-by r c f (λ v. Lawful (report-after r c v)) (λ e. l)
-      (λ w b. with-zone-lawful r (zone-of c) _ l (here w) (broken-may _ _ _ _ _ (operation-of c) b (was w) (l .few-open)))
-      (λ w. with-zone-lawful r (zone-of c) _ l (here w)
-        (moved-may _ _ _ _ _ (operation-of c) (was w) (l .few-open) (some-blocks (r .counts) (zone-of c) (l .limits) (here w)) (w .taken) (w .few-open)))
+    (λ w b. with-zone-lawful r (zone-of c) _ l (here w) (broken-may _ _ _ _ _ (operation-of c) b (was w) (l .few-open)))
+    (λ w. with-zone-lawful r (zone-of c) _ l (here w)
+    (moved-may _ _ _ _ _ (operation-of c) (was w) (l .few-open) (some-blocks (r .counts) (zone-of c) (l .limits) (here w)) (w .taken) (w .few-open)))
   where
     here : Passed r c → zone-of c < r .counts .zones
     here w = inside-zone (r .counts) c (w .inside)
+
     was : Passed r c → possible-at (r .counts) (zone-of c) (zone-at r (zone-of c)) ≡ true
     was w = l .states (zone-of c) (here w)
 
@@ -143,14 +145,14 @@ pub block-after : (s : State) (c : Command) (z p : ℕ) → Shaped (s .meaning)
 block-after s c z p h =
     let bs = s .meaning .blocks in
     judged-by (s .meaning .told) c (s .plan [] c) (λ v. block-at (blocks-after bs c v) z p ≡ rewritten c v z p (block-at bs z p))
-      (λ e. refl) (λ w b. refl) (λ w. put-stored (s .meaning) c z p h (w .inside))
+    (λ e. refl) (λ w b. refl) (λ w. put-stored (s .meaning) c z p h (w .inside))
 
 bytes-after : (s : State) (c : Command) (z p : ℕ) (had : List ℕ) → length had ≡ s .meaning .told .counts .bytes
     → length (rewritten c (verdict s c) z p had) ≡ s .meaning .told .counts .bytes
 bytes-after s c z p had h =
     let n = s .meaning .told .counts in
     judged-by (s .meaning .told) c (s .plan [] c) (λ v. length (rewritten c v z p had) ≡ n .bytes)
-      (λ e. h) (λ w b. h) (λ w. put-bytes n c z p had (w .inside) h)
+    (λ e. h) (λ w b. h) (λ w. put-bytes n c z p had (w .inside) h)
 
 pub shaped-after : (s : State) (c : Command) → Shaped (s .meaning) → Shaped (after s c .meaning)
 shaped-after s c h =
@@ -160,7 +162,8 @@ shaped-after s c h =
     record {
       by-zone = rw e (zones-after bs c v ∙ h .by-zone);
       by-place = rw e (λ z k. places-after bs c v z ∙ h .by-place z k);
-      by-byte = rw e (λ z p k l. ap length (block-after s c z p h) ∙ bytes-after s c z p (block-at bs z p) (h .by-byte z p k l)) }
+      by-byte = rw e (λ z p k l. ap length (block-after s c z p h) ∙ bytes-after s c z p (block-at bs z p) (h .by-byte z p k l));
+    }
 
 -- ---- the zones
 
@@ -182,14 +185,15 @@ Bad-then s cs z = (zone-at (run s cs .meaning .told) z ≡ zone-at (s .meaning .
 bad-own : (s : State) (c : Command) → is-bad (zone-at (s .meaning .told) (zone-of c) .condition) ≡ true → Bad-then s (c ∷ []) (zone-of c)
 bad-own s c h =
     judged-by r c (s .plan [] c) (λ v. verdict s c ≡ v → Bad-then s (c ∷ []) (zone-of c))
-      (λ e q. inl (grind arith))
-      (λ w b q. let k = only w in let i = told-inside r (zone-of c) (k .0) in
-        inr (record { was = k .0; is-now = grind (arith, getD-set-same); by-a-read = inl (record { names = refl; reads = k .1; bad = b; faults = q }) }))
-      (λ w q. let k = only w in inl (grind (arith, set-getD)))
-      refl
+    (λ e q. inl (grind arith))
+    (λ w b q. let k = only w in let i = told-inside r (zone-of c) (k .0) in
+    inr (record { was = k .0; is-now = grind (arith, getD-set-same); by-a-read = inl (record { names = refl; reads = k .1; bad = b; faults = q }) }))
+    (λ w q. let k = only w in inl (grind (arith, set-getD)))
+    refl
   where
     r : Report
     r = s .meaning .told
+
     only : Passed r c → (zone-at r (zone-of c) .condition ≡ ReadOnly) × (operation-of c ≡ Op.Read)
     only w = bad-takes (zone-at r (zone-of c) .condition) (operation-of c) h (w .taken)
 

@@ -238,7 +238,8 @@ abbrev pub meaning-after : Meaning → Command → Verdict → Meaning
 meaning-after m c v = record {
   told = report-after (m .told) c v;
   blocks = blocks-after (m .blocks) c v;
-  misused = m .misused || misuse v }
+  misused = m .misused || misuse v;
+}
 
 -- the device after a command
 abbrev pub after : State → Command → State

@@ -49,7 +49,11 @@ impl Condition {
     {
         match self {
             Condition::ReadOnly | Condition::Offline => true,
-            Condition::Plain | Condition::Empty | Condition::Open | Condition::Closed | Condition::Full => false,
+            Condition::Plain
+            | Condition::Empty
+            | Condition::Open
+            | Condition::Closed
+            | Condition::Full => false,
         }
     }
 }

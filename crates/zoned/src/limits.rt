@@ -16,7 +16,14 @@ impl Counts {
     fn within(self) -> bool
         ensures { λ r. ⌜ r ≡ within self ⌝ }
     {
-        let Counts { zones, conventional, blocks, bytes, open_limit, reserve } = self;
+        let Counts {
+            zones,
+            conventional,
+            blocks,
+            bytes,
+            open_limit,
+            reserve,
+        } = self;
         4 <= zones
             && zones <= 64
             && 2 <= conventional
@@ -35,7 +42,11 @@ impl Counts {
     pub fn check(self) -> Result<(), InputRefusal>
         ensures { λ r. ⌜ r ≡ checked self ⌝ }
     {
-        if self.within() { Ok(()) } else { Err(InputRefusal::Geometry) }
+        if self.within() {
+            Ok(())
+        } else {
+            Err(InputRefusal::Geometry)
+        }
     }
 }
 
@@ -54,14 +65,26 @@ impl Geometry {
     pub fn none() -> Geometry
         ensures { λ r. ⌜ r .counts ≡ no-counts ⌝ }
     {
-        Geometry { counts: Counts { zones: 0, conventional: 0, blocks: 0, bytes: 0, open_limit: 0, reserve: 0 } }
+        Geometry {
+            counts: Counts {
+                zones: 0,
+                conventional: 0,
+                blocks: 0,
+                bytes: 0,
+                open_limit: 0,
+                reserve: 0,
+            },
+        }
     }
 
     // The chunks of a volume: all zones but zone 0 and the reserve.
     pub fn chunks(self) -> u32
         ensures { λ r. ⌜ r ≡ chunk-count (self .counts) ⌝ }
     {
-        self.counts.zones.saturating_sub(1).saturating_sub(self.counts.reserve)
+        self.counts
+            .zones
+            .saturating_sub(1)
+            .saturating_sub(self.counts.reserve)
     }
 
     // The conventional zones that a volume may use: all but zone 0.
@@ -85,6 +108,9 @@ impl Geometry {
         if block.0 >= self.chunks() * self.counts.blocks {
             return None;
         }
-        Some((Chunk(block.0 / self.counts.blocks), Place(block.0 % self.counts.blocks)))
+        Some((
+            Chunk(block.0 / self.counts.blocks),
+            Place(block.0 % self.counts.blocks),
+        ))
     }
 }

@@ -22,4 +22,5 @@ returns c =
     let p = flash-zeros (c .args .counts) n (vec-items (c .in-Continue-conventional .conventional)) (vec-items (c .in-Continue-sequential .sequential)) (c .new-geometry .ensures) (c .in-Continue-conventional .ensures tt) (c .in-Continue-sequential .ensures tt ∙ rest) in
     record {
       zones = subst (λ m. made (c .new .result) (λ d. flash-table d ≡ new-table m)) (p .0) (c .new .ensures .zones);
-      store = subst (λ bs. made (c .new .result) (λ d. flash-store d ≡ bs)) (p .1) (c .new .ensures .blocks) }
+      store = subst (λ bs. made (c .new .result) (λ d. flash-store d ≡ bs)) (p .1) (c .new .ensures .blocks);
+    }

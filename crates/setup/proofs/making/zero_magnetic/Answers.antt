@@ -10,4 +10,5 @@ returns c =
     let p = magnetic-zeros (c .args .counts) (c .new-geometry .result .counts) (vec-items (c .in-Continue-area .area)) (c .new-geometry .ensures) (c .in-Continue-area .ensures tt) in
     record {
       zones = subst (λ m. made (c .new .result) (λ d. magnetic-table d ≡ new-table m)) (p .0) (c .new .ensures .zones);
-      store = subst (λ bs. made (c .new .result) (λ d. magnetic-store d ≡ bs)) (p .1) (c .new .ensures .blocks) }
+      store = subst (λ bs. made (c .new .result) (λ d. magnetic-store d ≡ bs)) (p .1) (c .new .ensures .blocks);
+    }

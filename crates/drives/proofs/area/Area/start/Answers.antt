@@ -10,4 +10,5 @@ returns c =
     let below = block-below (a .zones) (a .blocks) (c .args .zone .0) (c .args .place .0) (c .pre .zone) (c .pre .place) in
     record {
       value = refl;
-      within = omega (arith, piece-within (a .zones * a .blocks) (a .bytes) (c .args .zone .0 * a .blocks + c .args .place .0) below) }
+      within = omega (arith, piece-within (a .zones * a .blocks) (a .bytes) (c .args .zone .0 * a .blocks + c .args .place .0) below);
+    }

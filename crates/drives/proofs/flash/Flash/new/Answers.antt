@@ -19,7 +19,8 @@ over-requires c κs =
     let e = sym (c .new .ensures ∙ p .is-kept) in
     record {
       conventional = subst (λ m. c .args .conventional .len ≡ m .conventional * m .blocks * m .bytes) e (c .args .conventional .ok .0 ∙ eqb-true (length xs) _ (a .0));
-      sequential = subst (λ m. c .args .sequential .len ≡ (m .zones - m .conventional) * m .blocks * m .bytes) e (c .args .sequential .ok .0 ∙ eqb-true (length ys) _ (a .1)) }
+      sequential = subst (λ m. c .args .sequential .len ≡ (m .zones - m .conventional) * m .blocks * m .bytes) e (c .args .sequential .ok .0 ∙ eqb-true (length ys) _ (a .1));
+    }
 
 pub returns-in-Ok : need.returns-in-Ok
 returns-in-Ok c =
@@ -30,7 +31,8 @@ returns-in-Ok c =
     let e = c .new .ensures ∙ p .is-kept in
     record {
       zones = subst (λ m. made (c .over .result) (λ d. flash-table d ≡ new-table m)) (e ∙ sym (p .is-taken)) (c .over .ensures .zones);
-      blocks = subst (λ bs. made (c .over .result) (λ d. flash-store d ≡ bs)) (ap (λ m. flash-blocks m xs ys) e ∙ sym (p .is-held)) (c .over .ensures .blocks) }
+      blocks = subst (λ bs. made (c .over .result) (λ d. flash-store d ≡ bs)) (ap (λ m. flash-blocks m xs ys) e ∙ sym (p .is-held)) (c .over .ensures .blocks);
+    }
 
 pub returns-in-Err : need.returns-in-Err
 returns-in-Err c =
@@ -41,4 +43,5 @@ returns-in-Err c =
     let e = c .none .ensures in
     record {
       zones = subst (λ m. made (c .over-in-Err .result) (λ d. flash-table d ≡ new-table m)) (e ∙ sym (p .is-taken)) (c .over-in-Err .ensures .zones);
-      blocks = subst (λ bs. made (c .over-in-Err .result) (λ d. flash-store d ≡ bs)) (ap (λ m. flash-blocks m (vec-items (c .new-in-Err .result)) (vec-items (c .new-in-Err-2 .result))) e ∙ sym (p .is-held)) (c .over-in-Err .ensures .blocks) }
+      blocks = subst (λ bs. made (c .over-in-Err .result) (λ d. flash-store d ≡ bs)) (ap (λ m. flash-blocks m (vec-items (c .new-in-Err .result)) (vec-items (c .new-in-Err-2 .result))) e ∙ sym (p .is-held)) (c .over-in-Err .ensures .blocks);
+    }

@@ -10,4 +10,5 @@ returns c =
     record {
       outcome = managed-outcome (table-of (d .zones)) (table-of (c .manage .last .self)) (flash-store d) (c .args .action) (c .args .zone .0) (c .manage .result) (c .manage .ensures .outcome);
       zones = c .manage .ensures .outcome;
-      store = refl }
+      store = refl;
+    }

@@ -21,7 +21,8 @@ returns-in-Break-read c =
       outcome = rw (p .1, p .2) (read-outcome t u bs (c .args .zone .0) (c .args .place .0) (length found) _ h);
       buffer = sym (kept-buffer t u bs (c .args .zone .0) (c .args .place .0) found (c .in-Break-read .field-0 .0) h);
       zones = rw (p .1, p .2) h;
-      store = refl }
+      store = refl;
+    }
 
 pub get-requires : need.get-requires
 get-requires c κs =
@@ -45,4 +46,5 @@ returns c =
       outcome = read-outcome t u bs (c .args .zone .0) (c .args .place .0) (length found) _ h;
       buffer = c .get .ensures ∙ sym (fetched-buffer t u bs (c .args .zone .0) (c .args .place .0) found h);
       zones = h;
-      store = refl }
+      store = refl;
+    }

@@ -19,7 +19,8 @@ returns-in-Break-write c =
     record {
       outcome = rw (p .1, p .2) (drive-written (table-of (d .zones)) (table-of (c .write .last .self)) (flash-store d) (flash-store d) x _ h (sym k));
       zones = rw (p .1, p .2) h;
-      store = sym k }
+      store = sym k;
+    }
 
 pub put-requires : need.put-requires
 put-requires c κs =

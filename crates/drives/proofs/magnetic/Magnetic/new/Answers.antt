@@ -25,7 +25,8 @@ returns-in-Ok c =
     let e = c .new .ensures ∙ p .is-kept in
     record {
       zones = subst (λ m. made (c .over .result) (λ d. magnetic-table d ≡ new-table m)) (e ∙ sym (p .is-taken)) (c .over .ensures .zones);
-      blocks = subst (λ bs. made (c .over .result) (λ d. magnetic-store d ≡ bs)) (ap (λ m. magnetic-blocks m area) e ∙ sym (p .is-held)) (c .over .ensures .blocks) }
+      blocks = subst (λ bs. made (c .over .result) (λ d. magnetic-store d ≡ bs)) (ap (λ m. magnetic-blocks m area) e ∙ sym (p .is-held)) (c .over .ensures .blocks);
+    }
 
 pub returns-in-Err : need.returns-in-Err
 returns-in-Err c =
@@ -35,4 +36,5 @@ returns-in-Err c =
     let e = c .none .ensures in
     record {
       zones = subst (λ m. made (c .over-in-Err .result) (λ d. magnetic-table d ≡ new-table m)) (e ∙ sym (p .is-taken)) (c .over-in-Err .ensures .zones);
-      blocks = subst (λ bs. made (c .over-in-Err .result) (λ d. magnetic-store d ≡ bs)) (ap (λ m. magnetic-blocks m (vec-items (c .new-in-Err .result))) e ∙ sym (p .is-held)) (c .over-in-Err .ensures .blocks) }
+      blocks = subst (λ bs. made (c .over-in-Err .result) (λ d. magnetic-store d ≡ bs)) (ap (λ m. magnetic-blocks m (vec-items (c .new-in-Err .result))) e ∙ sym (p .is-held)) (c .over-in-Err .ensures .blocks);
+    }

@@ -19,4 +19,5 @@ returns c =
     let ts = c .in-Continue-resize .ensures tt .items ∙ grown (n .zones) _ no-trip _ (c .new-trips .ensures .items) (c .new-trips .ensures .len) in
     record {
       zones = ap₂ (λ ss us. record { told = record { counts = n; zones = ss }; trips = us; misused = false }) (c .in-Continue-states .ensures tt) ts;
-      geometry = refl }
+      geometry = refl;
+    }

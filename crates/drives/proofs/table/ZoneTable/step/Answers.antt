@@ -11,7 +11,8 @@ pass-requires c κs =
     record {
       within = asked-below (t .geometry .counts) (c .args .zone .0) (c .args .operation) (c .args .place .0) (t .geometry .counts .bytes) (c .pre);
       lawful = p .lawful;
-      broken = p .broken-lawful }
+      broken = p .broken-lawful;
+    }
 
 pub returns-in-Ok : need.returns-in-Ok
 returns-in-Ok c =
