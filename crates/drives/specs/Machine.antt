@@ -15,7 +15,8 @@ use Rattle.zoned.specs.Limits.{is-conventional}
 use Rattle.zoned.specs.Report.{Report, zone-at, open-count}
 use Rattle.zoned.specs.Rules.{filled}
 
-abbrev at : Condition → ℕ → Result ZoneState DeviceRefusal
+-- a zone in this condition, with this pointer
+abbrev pub at : Condition → ℕ → Result ZoneState DeviceRefusal
 at k q = Ok (record { condition = k; pointer = q })
 
 -- a conventional zone is read at any place, and a sequential one below its pointer

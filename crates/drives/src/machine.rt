@@ -1,8 +1,7 @@
 ghost use mathlib.Core.Path.{_≡_};
 ghost use Prim.Native.Nat.{_≤_};
-ghost use Rattle.drives.specs.Machine.{machine as machine-of};
+ghost use Rattle.drives.specs.Machine.{at as at-state, machine as machine-of};
 ghost use Rattle.zoned.specs.Limits.{is-conventional};
-ghost use Rattle.zoned.specs.Rules.{filled as filled-to};
 use zoned::commands::Operation;
 use zoned::conditions::Condition;
 use zoned::conditions::ZoneState;
@@ -36,47 +35,26 @@ pub(crate) fn next_state(
         (Condition::Empty | Condition::Closed, Operation::Open) if crowded => Err(
             DeviceRefusal::OpenLimit,
         ),
-        (Condition::Empty | Condition::Closed, Operation::Open) => Ok(ZoneState {
-            condition: Condition::Open,
-            pointer,
-        }),
-        (Condition::Open, Operation::Close) if pointer == 0 => Ok(ZoneState {
-            condition: Condition::Empty,
-            pointer,
-        }),
-        (Condition::Open, Operation::Close) => Ok(ZoneState {
-            condition: Condition::Closed,
-            pointer,
-        }),
-        (Condition::Empty | Condition::Open | Condition::Closed, Operation::Finish) =>
-            Ok(ZoneState {
-                condition: Condition::Full,
-                pointer: blocks,
-            }),
+        (Condition::Empty | Condition::Closed, Operation::Open) => at(Condition::Open, pointer),
+        (Condition::Open, Operation::Close) if pointer == 0 => at(Condition::Empty, pointer),
+        (Condition::Open, Operation::Close) => at(Condition::Closed, pointer),
+        (Condition::Empty | Condition::Open | Condition::Closed, Operation::Finish) => at(
+            Condition::Full,
+            blocks,
+        ),
         (
             Condition::Empty | Condition::Open | Condition::Closed | Condition::Full,
             Operation::Reset,
-        ) => Ok(ZoneState {
-            condition: Condition::Empty,
-            pointer: 0,
-        }),
-        (Condition::Open, Operation::Write) if place.0 == pointer => Ok(filled(
-            blocks,
-            pointer + 1,
-        )),
-        (Condition::Open, Operation::Write) => Err(DeviceRefusal::OffPointer),
+        ) => at(Condition::Empty, 0),
+        (Condition::Open, Operation::Write) if place.0 != pointer => Err(DeviceRefusal::OffPointer),
+        (Condition::Open, Operation::Write) if pointer + 1 == blocks => at(Condition::Full, blocks),
+        (Condition::Open, Operation::Write) => at(Condition::Open, pointer + 1),
         _ => Err(DeviceRefusal::WrongCondition),
     }
 }
 
-// A sequential zone of so many blocks whose pointer has come so far.
-fn filled(blocks: u32, pointer: u32) -> ZoneState
-    ensures { λ r. ⌜ r ≡ filled-to blocks pointer ⌝ }
+fn at(condition: Condition, pointer: u32) -> Result<ZoneState, DeviceRefusal>
+    ensures { λ r. ⌜ r ≡ at-state condition pointer ⌝ }
 {
-    let condition = if pointer == blocks {
-        Condition::Full
-    } else {
-        Condition::Open
-    };
-    ZoneState { condition, pointer }
+    Ok(ZoneState { condition, pointer })
 }

@@ -3,21 +3,18 @@ ghost use Rattle.setup.specs.Setup.{all-bytes, kind-of, setup-checked, setup-t
 ghost use Rattle.text.specs.Fields.{left, taken};
 use text::fields::Fields;
 use zoned::counts::Counts;
-use zoned::counts::CountsDebug;
-use zoned::counts::CountsEq;
-use zoned::counts::CountsPartialEq;
 use zoned::geometry::Geometry;
 use zoned::refusals::InputRefusal;
 
 // Which of the two drives.
-#[derive(Clone, Copy, PartialEq, Eq, Debug)]
+#[derive(Clone, Copy)]
 pub enum DriveKind {
     Magnetic,
     Flash,
 }
 
 // What the first line of a script asks for.
-#[derive(Clone, Copy, PartialEq, Eq, Debug)]
+#[derive(Clone, Copy)]
 pub struct Setup {
     pub kind: DriveKind,
     pub counts: Counts,
