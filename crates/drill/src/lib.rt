@@ -1,4 +1,6 @@
 // A drill: a script of commands, played on a drive, and what it prints.
+#![tactic(auto)]
+
 pub mod drill;
 pub mod instruction;
 pub mod obeying;

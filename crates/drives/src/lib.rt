@@ -1,5 +1,7 @@
 // Two zoned drives in memory: a magnetic one, with all its zones in one byte area, and a flash one, with its conventional and its
 // sequential zones in two. Zones may carry a trip, by which a test has them fault.
+#![tactic(auto)]
+
 pub mod area;
 pub mod blocks;
 pub mod counting;

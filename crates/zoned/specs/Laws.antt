@@ -1,9 +1,9 @@
 -- The laws of runs: what holds after every list of commands, whichever of them are turned away and whichever fault.
-use Rattle.std.specs.Prelude.{◌≡◌, ℕ, ◌<◌, true, ◌⊎◌, List, Decides}
+use Rattle.std.specs.Prelude.{◌≡◌, ℕ, true, ◌⊎◌, List, Decides}
 use Rattle.zoned.specs.declared.conditions.Condition.TheVariants.{ReadOnly, Offline}
 use Rattle.zoned.specs.Commands.{Command}
 use Rattle.zoned.specs.Conditions.{is_bad}
-use Rattle.zoned.specs.Report.{Report, Lawful, zone_at}
+use Rattle.zoned.specs.Report.{Lawful, zone_at}
 use Rattle.zoned.specs.Rules.{State, Shaped, block_at}
 use Rattle.zoned.specs.Runs.{run, Occurs, Misuses, Names, Writes, ReadFaults, last_written}
 

@@ -1,5 +1,5 @@
 -- Runs: lists of commands, sent one after the other.
-use Rattle.std.specs.Prelude.{◌≡◌, ℕ, ◌≤◌, Bool, true, false, cond, ◌&&◌, ◌⊎◌, List, [], ◌∷◌, Err, ◌==◌}
+use Rattle.std.specs.Prelude.{◌≡◌, ℕ, ◌≤◌, cond, ◌&&◌, ◌⊎◌, List, [], ◌∷◌, Err, ◌==◌}
 use Rattle.zoned.specs.declared.conditions.Bad.{Bad}
 use Rattle.zoned.specs.declared.commands.Operation.TheVariants as Op
 use Rattle.zoned.specs.declared.refusals.DeviceRefusal.{DeviceRefusal}

@@ -1,4 +1,6 @@
 // Zoned drives: their numbers, their geometry, the zone rules, and the traits of a reporter and of a device.
+#![tactic(auto)]
+
 pub mod commands;
 pub mod conditions;
 pub mod counts;

@@ -20,8 +20,8 @@ pub fn list_zones<R: Reporter>(reporter: &R, out: &mut [u8]) -> Result<(), Input
 }
 
 fn list_zone<R: Reporter>(reporter: &R, zone: Zone, out: &mut [u8])
-    requires zone_bound { zone.0 < (R.Reporter.report reporter.now).counts.zones }
-    requires zone_in_bounds { zone.0 * 3 + 3 ≤ length out.old }
+    requires zone { zone.0 < (R.Reporter.report reporter.now).counts.zones }
+    requires room { zone.0 * 3 + 3 ≤ length out.old }
     ensures { out.new ≡ listed_at (R.Reporter.report reporter.now) zone.0 out.old }
 {
     let state = reporter.zone(zone);

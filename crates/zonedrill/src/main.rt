@@ -1,4 +1,6 @@
 // Plays drill scripts: the files that are named, `-` for standard input, or else standard input alone.
+#![tactic(auto)]
+
 use anyhow::anyhow;
 use drill::playing::play;
 use std::io::{Read, Write};

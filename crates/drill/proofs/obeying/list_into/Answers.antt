@@ -6,5 +6,5 @@ use Rattle.drill.proofs.obeying.list_into.Goals as goal
 
 pub returns : goal.returns
 returns c =
-    let e = listed_whole (script_report c.args.drive.now) c.args.listing.now c.list-zones.new.out c.list-zones.result c.requires c.list-zones.ensures in
-    subst (λ l. IfOk c.put-threes.result (λ _. vec_items c.put-threes.new.out ≡ vec_items c.args.out.now ++ in_threes l)) e c.put-threes.ensures
+    let e = listed_whole (script_report c.args.drive.now) c.args.listing.now c.list_zones.new.out c.list_zones.result c.requires c.list_zones.ensures in
+    subst (λ l. IfOk c.put_threes.result (λ _. vec_items c.put_threes.new.out ≡ vec_items c.args.out.now ++ in_threes l)) e c.put_threes.ensures

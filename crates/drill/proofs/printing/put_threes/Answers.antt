@@ -7,7 +7,7 @@ pub loop-left-preserved : goal.loop-left-preserved
 loop-left-preserved c =
     let xs = c.loop-left.left.now in
     let h : 3 ≤ length xs = omega arith in
-    c.loop-left.invariant ∙ three_more (vec_items c.loop-left.out) xs h ∙ ap (λ out. out ++ in_threes (take (length xs - 3) (drop 3 xs))) (sym c.in-ok-put-bytes.ensures)
+    c.loop-left.invariant ∙ three_more (vec_items c.loop-left.out) xs h ∙ ap (λ out. out ++ in_threes (take (length xs - 3) (drop 3 xs))) (sym c.in_ok-put_bytes.ensures)
 
 pub returns : goal.returns
 returns c =

@@ -3,4 +3,4 @@ use Rattle.drives.specs.Fresh.{grown}
 use Rattle.setup.proofs.bytes.filled.Goals as goal
 
 pub returns : goal.returns
-returns c = c.in-ok-resize.ensures.items ∙ grown _ _ c.args.byte _ c.new-bytes.ensures.items c.new-bytes.ensures.len
+returns c = c.in_ok-resize.ensures.items ∙ grown _ _ c.args.byte _ c.new-bytes.ensures.items c.new-bytes.ensures.len

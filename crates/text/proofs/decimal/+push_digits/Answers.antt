@@ -5,11 +5,11 @@ use Rattle.text.proofs.Figures.{digits_one, digits_step, digits_one_length, digi
 use Rattle.text.proofs.decimal.+push_digits.Goals as goal
 use Rattle.text.proofs.decimal.+push_digits.Goals.{then-n-ge10, else-n-ge10}
 
-pub push-digits-requires : goal.push-digits-requires
-push-digits-requires t c = search (rules, digits_step_length)
+pub push_digits-requires : goal.push_digits-requires
+push_digits-requires t c = search (rules, digits_step_length)
 
-pub push-reserved-requires : goal.push-reserved-requires
-push-reserved-requires t c =
+pub push_reserved-requires : goal.push_reserved-requires
+push_reserved-requires t c =
     elim c.if-n-ge10.branch [
       | then-n-ge10 w ↦ let e = digits_step_length c.args.n (omega arith) (omega arith) in search rules
       | else-n-ge10 w ↦ let e = digits_one_length c.args.n (omega arith) in search rules

@@ -5,7 +5,7 @@ use Rattle.text.specs.Pieces.{all_ended, ended_lines}
 use Rattle.text.specs.Replies.{not_understood}
 use Rattle.text.proofs.Cutting.{next_line_is, next_line_less, next_line_ends, no_line, no_line_ends}
 use Rattle.text.proofs.lines.play_lines.Goals as goal
-use Rattle.text.proofs.lines.play_lines.Goals.{then-not-is-empty+in-ok-put-refusal, else-not-is-empty}
+use Rattle.text.proofs.lines.play_lines.Goals.{then-not-is_empty+in_ok-put_refusal, else-not-is_empty}
 
 pub loop-line-smaller : goal.loop-line-smaller
 loop-line-smaller g c = next_line_less c.loop-line.left.now c.in-Some.line.now c.in-Some.rest.now c.in-Some.ensures
@@ -18,7 +18,7 @@ loop-line-preserved g c =
     let next = next_line_is left line rest c.in-Some.ensures in
     let ends = next_line_ends left line rest c.in-Some.ensures in
     let printed = ap (λ ls. vec_items c.loop-line.out ++ g.P.Player.prints c.loop-line.player ls) next in
-    let answered = c.in-ok-answer.ensures (ended_lines rest) in
+    let answered = c.in_ok-answer.ensures (ended_lines rest) in
     (cc, cc)
 
 pub returns : goal.returns
@@ -29,14 +29,14 @@ returns g c =
     let none = no_line left c.in-default.ensures in
     let quiet = ap (g.P.Player.prints c.loop-line.player) none ∙ g.met.P.Player.quiet c.loop-line.player in
     let all = c.loop-line.invariant.0 ∙ ap (λ t. out ++ t) quiet ∙ append-nil out in
-    let ends = c.loop-line.invariant.1 ∙ no_line_ends left c.in-default.ensures ∙ sym c.is-empty.ensures in
-    elim c.if-not-is-empty.branch [
-      | then-not-is-empty+in-ok-put-refusal w ↦
-          let tail = cond-false (all_ended text) [] not_understood (ends ∙ w.if-not-is-empty.true) in
-          let put = w.in-ok-put-refusal.ensures in
+    let ends = c.loop-line.invariant.1 ∙ no_line_ends left c.in-default.ensures ∙ sym c.is_empty.ensures in
+    elim c.if-not-is_empty.branch [
+      | then-not-is_empty+in_ok-put_refusal w ↦
+          let tail = cond-false (all_ended text) [] not_understood (ends ∙ w.if-not-is_empty.true) in
+          let put = w.in_ok-put_refusal.ensures in
           cc
-      | else-not-is-empty w ↦
-          let tail = cond-true (all_ended text) [] not_understood (ends ∙ w.if-not-is-empty.false) in
+      | else-not-is_empty w ↦
+          let tail = cond-true (all_ended text) [] not_understood (ends ∙ w.if-not-is_empty.false) in
           let same = append-nil out in
           cc
     ]

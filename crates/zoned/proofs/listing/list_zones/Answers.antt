@@ -1,5 +1,5 @@
-use Rattle.std.proofs.Common.{◌≡◌, ◌+◌, ◌*◌, ◌<◌, ◌≤◌, length, Ok, sym, ap, ◌∙◌, arith, rules}
-use Rattle.std.proofs.lemmas.List.{length-set, ext_get_or}
+use Rattle.std.proofs.Common.{◌≡◌, ◌+◌, ◌*◌, ◌<◌, ◌≤◌, length, Ok, sym, ap, ◌∙◌, arith}
+use Rattle.std.proofs.lemmas.List.{ext_get_or}
 use Rattle.std.proofs.lemmas.Bool.{eq-eqb, cond-true}
 use Rattle.std.proofs.lemmas.Bool.Decides.{nat_tests}
 use Rattle.zoned.specs.Listing.{listing}
@@ -17,7 +17,7 @@ loop-z-preserved g c =
     let h : c.loop-z.z < length r.zones = omega arith in
     let room : c.loop-z.z * 3 + 3 ≤ length c.loop-z.out = omega (arith, c.loop-z.invariant.0) in
     let m = one_zone_more r c.loop-z.out c.loop-z.z h room c.loop-z.invariant.1 in
-    (omega (arith, c.list-zone.auto, c.loop-z.invariant.0), rw c.list-zone.ensures m)
+    (omega (arith, c.list_zone.auto, c.loop-z.invariant.0), rw c.list_zone.ensures m)
 
 pub returns : goal.returns
 returns g c =

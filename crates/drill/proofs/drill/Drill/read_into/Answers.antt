@@ -9,6 +9,6 @@ returns c =
     let d = c.args.self.now.drive in
     let e = c.read-answer.new.self in
     let f = c.read-answer.ensures in
-    IfOk-weaker c.put-read.result _ _
-    (λ x h. read_done (script_table d) (script_table e) (script_store d) (script_store e) c.args.zone c.args.place c.args.buffer.now c.read-answer.new.buffer (vec_items c.args.out.now) (vec_items c.put-read.new.out) c.read-answer.result c.requires f.zones f.store f.buffer h)
-    c.put-read.ensures
+    IfOk-weaker c.put_read.result _ _
+    (λ x h. read_done (script_table d) (script_table e) (script_store d) (script_store e) c.args.zone c.args.place c.args.buffer.now c.read-answer.new.buffer (vec_items c.args.out.now) (vec_items c.put_read.new.out) c.read-answer.result c.requires f.zones f.store f.buffer h)
+    c.put_read.ensures

@@ -6,18 +6,18 @@ use Rattle.drives.specs.Table.{table_of}
 use Rattle.drives.proofs.States.{accepted_inside, named, read_outcome, kept_buffer, fetched_buffer}
 use Rattle.drives.proofs.flash_device.FlashZonedDevice.read.Goals as goal
 
-pub returns-in-err-read : goal.returns-in-err-read
-returns-in-err-read c =
+pub returns-in_err-read : goal.returns-in_err-read
+returns-in_err-read c =
     let d = c.args.self.now in
     let t = table_of d.zones in
     let u = table_of c.read.new.self in
     let bs = flash_store d in
     let found = c.args.buffer.now in
-    let h = c.in-err-read.ensures.outcome in
-    let p = err_from_is_err_and c.from-residual.result c.from-residual.ensures.1 in
+    let h = c.in_err-read.ensures.outcome in
+    let p = err_from_is_err_and c.from_residual.result c.from_residual.ensures.1 in
     record {
       outcome = rw (p.1, p.2) (read_outcome t u bs c.args.zone.0 c.args.place.0 (length found) _ h);
-      buffer = sym (kept_buffer t u bs c.args.zone.0 c.args.place.0 found c.in-err-read.field-0.0 h);
+      buffer = sym (kept_buffer t u bs c.args.zone.0 c.args.place.0 found c.in_err-read.field-0.0 h);
       zones = rw (p.1, p.2) h;
       store = refl;
     }
@@ -27,9 +27,9 @@ get-requires c =
     let d = c.args.self.now in
     let z = c.args.zone.0 in
     let p = c.args.place.0 in
-    let i = accepted_inside (table_of d.zones) (table_of c.read.new.self) (read z p (length c.args.buffer.now)) c.in-ok-read.ensures.outcome in
+    let i = accepted_inside (table_of d.zones) (table_of c.read.new.self) (read z p (length c.args.buffer.now)) c.in_ok-read.ensures.outcome in
     let n = named d.zones.geometry.counts z p (length c.args.buffer.now) i in
-    let g = c.in-ok-read.ensures.geometry in
+    let g = c.in_ok-read.ensures.geometry in
     record { zone = rw g n.zone; place = rw g n.place; bytes = rw g n.bytes }
 
 pub returns : goal.returns
@@ -39,7 +39,7 @@ returns c =
     let u = table_of c.read.new.self in
     let bs = flash_store d in
     let found = c.args.buffer.now in
-    let h = c.in-ok-read.ensures.outcome in
+    let h = c.in_ok-read.ensures.outcome in
     record {
       outcome = read_outcome t u bs c.args.zone.0 c.args.place.0 (length found) _ h;
       buffer = c.get.ensures ∙ sym (fetched_buffer t u bs c.args.zone.0 c.args.place.0 found h);

@@ -4,18 +4,18 @@ use Rattle.drives.specs.Table.{no_trip}
 use Rattle.drives.specs.Fresh.{grown, fresh_lawful}
 use Rattle.drives.proofs.table.ZoneTable.new.Goals as goal
 
-pub invariant-of-result : goal.invariant-of-result
-invariant-of-result c =
+pub invariant_of-result : goal.invariant_of-result
+invariant_of-result c =
     let n = c.args.geometry.counts in
     let l = fresh_lawful n c.args.geometry.limits in
-    let e = sym c.in-ok-states.ensures in
-    (c.in-ok-states.states.ok.0 ∙ rw e at l.all_zones, (c.in-ok-resize.ensures.len, (rw e at l.states, (rw e at l.few_open, tt))))
+    let e = sym c.in_ok-states.ensures in
+    (c.in_ok-states.states.ok.0 ∙ rw e at l.all_zones, (c.in_ok-resize.ensures.len, (rw e at l.states, (rw e at l.few_open, tt))))
 
 pub returns : goal.returns
 returns c =
     let n = c.args.geometry.counts in
-    let ts = c.in-ok-resize.ensures.items ∙ grown n.zones _ no_trip _ c.new-trips.ensures.items c.new-trips.ensures.len in
+    let ts = c.in_ok-resize.ensures.items ∙ grown n.zones _ no_trip _ c.new-trips.ensures.items c.new-trips.ensures.len in
     record {
-      zones = ap₂ (λ ss us. record { told = record { counts = n; zones = ss }; trips = us; misused = false }) c.in-ok-states.ensures ts;
+      zones = ap₂ (λ ss us. record { told = record { counts = n; zones = ss }; trips = us; misused = false }) c.in_ok-states.ensures ts;
       geometry = refl;
     }

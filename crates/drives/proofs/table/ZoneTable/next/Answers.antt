@@ -7,8 +7,8 @@ use Rattle.drives.proofs.Within.{lawful_table, read_state, read_pointer}
 use Rattle.drives.proofs.Passing.{asked_below, next_ruled}
 use Rattle.drives.proofs.table.ZoneTable.next.Goals as goal
 
-pub next-state-requires : goal.next-state-requires
-next-state-requires c =
+pub next_state-requires : goal.next_state-requires
+next_state-requires c =
     let t = c.args.self.now in
     let h = asked_below t.geometry.counts c.args.zone.0 c.args.operation c.args.place.0 t.geometry.counts.bytes c.requires in
     read_pointer t c.args.zone.0 c.index-state.result.now h c.index-state.ensures
@@ -24,7 +24,7 @@ returns c =
     let e = read_state t z c.index-state.result.now h c.index-state.ensures in
     let sort = is_conventional r.counts z in
     let n = r.counts.blocks in
-    c.next-state.ensures
-    ∙ ap (λ full. machine sort n full c.index-state.result.now.condition c.index-state.result.now.pointer o p) c.is-crowded.ensures
+    c.next_state.ensures
+    ∙ ap (λ full. machine sort n full c.index-state.result.now.condition c.index-state.result.now.pointer o p) c.is_crowded.ensures
     ∙ ap (λ (s : ZoneState). machine sort n (is_opening o && crowded r) s.condition s.pointer o p) e
     ∙ next_ruled r z o p (lawful_table t) c.requires

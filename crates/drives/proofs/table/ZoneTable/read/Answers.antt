@@ -6,9 +6,9 @@ use Rattle.drives.specs.Table.{table_of}
 use Rattle.drives.proofs.Passing.{outside_outcome}
 use Rattle.drives.proofs.table.ZoneTable.read.Goals as goal
 
-pub returns-then-not-has-block : goal.returns-then-not-has-block
-returns-then-not-has-block c =
+pub returns-then-not-has_block : goal.returns-then-not-has_block
+returns-then-not-has_block c =
     let t = table_of c.args.self.now in
     let x = read c.args.zone.0 c.args.place.0 c.args.length in
-    let e = outside_outcome t x (not-false (outside t.told.counts x) (sym c.if-not-has-block.ensures)) in
+    let e = outside_outcome t x (not-false (outside t.told.counts x) (sym c.if-not-has_block.ensures)) in
     record { outcome = e ∙ c.refuse.ensures.outcome; geometry = c.refuse.ensures.geometry }

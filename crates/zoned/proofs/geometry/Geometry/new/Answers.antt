@@ -4,8 +4,8 @@ use Rattle.zoned.specs.Limits.{within, is_none}
 use Rattle.zoned.proofs.Bounds.{within_small}
 use Rattle.zoned.proofs.geometry.Geometry.new.Goals as goal
 
-pub invariant-of-result : goal.invariant-of-result
-invariant-of-result c =
+pub invariant_of-result : goal.invariant_of-result
+invariant_of-result c =
     let t = sym c.if-not-within.ensures in
     let s = within_small c.args.counts t in
-    (or_left (within c.args.counts) (is_none c.args.counts) t, (s.zones, (s.blocks, (s.bytes, tt))))
+    record { limits = or_left (within c.args.counts) (is_none c.args.counts) t; few_zones = s.zones; few_blocks = s.blocks; few_bytes = s.bytes }
