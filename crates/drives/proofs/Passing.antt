@@ -1,12 +1,11 @@
 -- The zone machine gives what the zone rules say.
-use Rattle.std.proofs.Common.{◌≡◌, ℕ, ◌+◌, ◌<◌, ◌≤◌, Bool, true, false, cond, not, ◌&&◌, ◌||◌, eqb, ltb, leb, List, length, set, replicate, Some, None, Ok, Err, Option, Result, sym, refl, ap, ◌∙◌, subst, ap₂, arith}
+use Rattle.std.proofs.Common.{◌≡◌, ℕ, ◌<◌, Bool, true, false, not, ◌&&◌, ◌||◌, eqb, leb, List, length, set, Some, None, Ok, Err, Option, sym, refl, ap, ◌∙◌, subst, ap₂, arith}
 use Rattle.std.proofs.lemmas.Bool.Decides.{nat_tests}
 use Rattle.std.proofs.lemmas.List.{length-replicate}
 use Rattle.zoned.specs.declared.commands.Operation.{Operation}
 use Rattle.zoned.specs.declared.commands.Operation.TheVariants as Op
 use Rattle.zoned.specs.declared.conditions.Bad.{Bad}
 use Rattle.zoned.specs.declared.conditions.Condition.{Condition}
-use Rattle.zoned.specs.declared.conditions.Condition.TheVariants.{Plain, Empty, Open, Closed, ReadOnly, Full, Offline}
 use Rattle.zoned.specs.declared.conditions.ZoneState.{ZoneState}
 use Rattle.zoned.specs.declared.counts.Counts.{Counts}
 use Rattle.zoned.specs.declared.refusals.DeviceRefusal.{DeviceRefusal}

@@ -4,7 +4,7 @@ use Rattle.std.proofs.lemmas.Bool.Decides.{nat_tests}
 use Rattle.zoned.specs.declared.commands.Action.{Action}
 use Rattle.zoned.specs.declared.counts.Counts.{Counts}
 use Rattle.zoned.specs.declared.refusals.DeviceRefusal.{DeviceRefusal}
-use Rattle.zoned.specs.Commands.{Command, manage, write, read}
+use Rattle.zoned.specs.Commands.{Command, manage, read}
 use Rattle.zoned.specs.Rules.{Blocks, Verdict, accepted, answer, outcome, outside, block_at, blocks_after, buffer_after, fetched, stored}
 use Rattle.zoned.proofs.Steps.{judged_by}
 use Rattle.drives.specs.Drives.{drive}

@@ -1,14 +1,13 @@
 -- Trips count the commands that pass.
-use Rattle.std.proofs.Common.{◌≡◌, ℕ, ◌+◌, ◌-◌, ◌<◌, ◌≤◌, Bool, true, false, cond, ◌&&◌, eqb, ◌≢◌, ◌⊎◌, List, [], ◌∷◌, length, set, replicate, Some, None, Option, sym, refl, ap, ◌∙◌, ap₂, inl, inr, zero-add, arith}
+use Rattle.std.proofs.Common.{◌≡◌, ℕ, ◌+◌, ◌<◌, ◌≤◌, true, false, cond, ◌&&◌, eqb, ◌≢◌, ◌⊎◌, List, [], ◌∷◌, length, set, replicate, None, sym, refl, ap, ◌∙◌, inl, inr, zero-add, arith}
 use Rattle.std.proofs.lemmas.List.{get_or-set_same, get_or-set_other, set_past, get_or_past, get_or-replicate, length-replicate}
 use Rattle.std.proofs.lemmas.Bool.{and_right, cases_eq, cases_lt, eq-eqb, ne_eqb}
 use Rattle.std.proofs.lemmas.Bool.Decides.{nat_tests}
-use Rattle.zoned.specs.declared.counts.Counts.{Counts}
-use Rattle.zoned.specs.Commands.{Command, zone_of}
+use Rattle.zoned.specs.Commands.{zone_of}
 use Rattle.zoned.specs.Rules.{Verdict, turned, faulted, accepted}
 use Rattle.drives.specs.declared.trips.Trip.{Trip}
 use Rattle.drives.specs.Drives.{new_table}
-use Rattle.drives.specs.Table.{Table, table_verdict, table_after, trip_at, trips_after, no_trip, worn, due, plan_of}
+use Rattle.drives.specs.Table.{table_verdict, table_after, trip_at, trips_after, no_trip, worn}
 use Rattle.drives.specs.Trips.{passes, passing, due_after, TripsCount, NewIsFaultless}
 
 -- a trip of a zone that the drive has not is none, and stays so

@@ -6,7 +6,7 @@ use Rattle.zoned.specs.declared.conditions.Condition.{Condition}
 use Rattle.zoned.specs.declared.conditions.Condition.TheVariants.{Plain, Empty, Open, Closed, ReadOnly, Full, Offline}
 use Rattle.zoned.specs.declared.conditions.ZoneState.{ZoneState}
 use Rattle.zoned.specs.declared.refusals.DeviceRefusal.{DeviceRefusal}
-use Rattle.zoned.specs.declared.refusals.DeviceRefusal.TheVariants.{OutOfRange, OffPointer, WrongCondition, OpenLimit, Unwritten, Fault}
+use Rattle.zoned.specs.declared.refusals.DeviceRefusal.TheVariants.{OffPointer, WrongCondition, OpenLimit, Unwritten, Fault}
 use Rattle.zoned.specs.Limits.{is_conventional}
 use Rattle.zoned.specs.Report.{Report, zone_at, open_count}
 use Rattle.zoned.specs.Rules.{filled}

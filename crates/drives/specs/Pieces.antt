@@ -1,10 +1,10 @@
 -- An area cut into pieces: which piece stands where, and what a write to one changes.
-use Rattle.std.specs.Prelude.{◌≡◌, ℕ, zero, suc, ◌+◌, ◌-◌, ◌*◌, ◌<◌, ◌≤◌, List, [], ◌∷◌, length, get_or, take, drop, set, slice_index_or, slice_set, refl}
+use Rattle.std.specs.Prelude.{◌≡◌, ℕ, zero, suc, ◌+◌, ◌-◌, ◌*◌, ◌<◌, ◌≤◌, List, [], ◌∷◌, length, get_or, take, drop, slice_index_or, slice_set, refl}
 use Rattle.std.proofs.Common.{sym, ap, ap₂, subst, ◌∙◌, suc-mul, zero-mul, mul_comm, mul-le-mul_right, arith, rules}
 use Rattle.std.proofs.Math.Seq.{paste}
 use Rattle.std.proofs.lemmas.Nat.{mul-add-lt}
 use Rattle.std.proofs.lemmas.List.{places, same_lists, length-take, length-drop, drop-drop, take-set-le, drop-set-lt, drop-set-add, get_or-take, get_or-drop}
-use Rattle.zoned.specs.Rules.{Blocks, block_at, with_block}
+use Rattle.zoned.specs.Rules.{block_at, with_block}
 use Rattle.drives.specs.Areas.{pieces, blocks_in}
 
 -- ---- numbers of blocks

@@ -1,5 +1,5 @@
 -- The zones of a drive with their trips, and what a command makes of them.
-use Rattle.std.specs.Prelude.{◌≡◌, ℕ, ◌-◌, Bool, cond, ◌||◌, List, [], ◌∷◌, replicate, Some, None, Ok, Err, vec_items, Option, Result, ◌==◌, slice_index_or, slice_set}
+use Rattle.std.specs.Prelude.{ℕ, ◌-◌, Bool, cond, ◌||◌, List, [], ◌∷◌, replicate, Some, None, Ok, Err, vec_items, Option, Result, ◌==◌, slice_index_or, slice_set}
 use Rattle.zoned.specs.declared.commands.Action.TheVariants as Act
 use Rattle.zoned.specs.declared.commands.Operation.{Operation}
 use Rattle.zoned.specs.declared.commands.Operation.TheVariants as Op

@@ -18,7 +18,7 @@ use zoned::refusals::{DeviceRefusal, InputRefusal};
 impl Reporter for Flash {
     ghost report = { flash_report };
 
-    ghost lawful = { first_of (Prim.search rules, Prim.grind (arith, Self.row.coded.inj)) };
+    ghost lawful = { Prim.search rules };
 
     fn geometry(&self) -> Geometry {
         self.zones.geometry
@@ -33,7 +33,7 @@ impl Reporter for Flash {
 impl ZonedDevice for Flash {
     ghost state = { flash_state };
 
-    ghost told = { first_of (Prim.search rules, Prim.grind (arith, Self.row.coded.inj)) };
+    ghost told = { Prim.search rules };
 
     ghost shaped = { λ d. flash_shaped d };
 

@@ -26,10 +26,10 @@ returns g c =
     let left = c.loop-line.left.now in
     let text = c.args.text.now in
     let out = vec_items c.loop-line.out in
-    let none = no_line left c.in-default.ensures in
+    let none = no_line left c.in_default.ensures in
     let quiet = ap (g.P.Player.prints c.loop-line.player) none ∙ g.met.P.Player.quiet c.loop-line.player in
     let all = c.loop-line.invariant.0 ∙ ap (λ t. out ++ t) quiet ∙ append-nil out in
-    let ends = c.loop-line.invariant.1 ∙ no_line_ends left c.in-default.ensures ∙ sym c.is_empty.ensures in
+    let ends = c.loop-line.invariant.1 ∙ no_line_ends left c.in_default.ensures ∙ sym c.is_empty.ensures in
     elim c.if-not-is_empty.branch [
       | then-not-is_empty+in_ok-put_refusal w ↦
           let tail = cond-false (all_ended text) [] not_understood (ends ∙ w.if-not-is_empty.true) in

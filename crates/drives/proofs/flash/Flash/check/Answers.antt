@@ -1,4 +1,4 @@
-use Rattle.std.proofs.Common.{◌≡◌, sym, ap, ◌∙◌}
+use Rattle.std.proofs.Common.{sym, ap, ◌∙◌}
 use Rattle.std.proofs.lemmas.Result.{err_from_is_err_and}
 use Rattle.drives.specs.Drives.{flash_fits}
 use Rattle.drives.proofs.Checked.{counts_first, counts_kept, areas_ok, areas_err}

@@ -1,4 +1,4 @@
-use Rattle.std.proofs.Common.{◌≡◌, ◌-◌, ◌*◌, eqb, length, IfOk, vec_items, sym, ap, ◌∙◌, subst, ap₂}
+use Rattle.std.proofs.Common.{◌≡◌, ◌-◌, ◌*◌, length, IfOk, vec_items, sym, ap, ◌∙◌, subst, ap₂}
 use Rattle.std.proofs.lemmas.Bool.{and_parts, eqb-true}
 use Rattle.drives.specs.Drives.{areas_checked, is_area, flash_fits, flash_blocks, flash_table, flash_store, new_table}
 use Rattle.drives.proofs.Checked.{areas_passed, areas_refused}

@@ -1,4 +1,4 @@
-use Rattle.std.proofs.Common.{◌≡◌, ◌*◌, length, IfOk, vec_items, sym, ap, ◌∙◌, subst, arith}
+use Rattle.std.proofs.Common.{◌≡◌, ◌*◌, length, IfOk, vec_items, sym, ap, ◌∙◌, subst}
 use Rattle.std.proofs.lemmas.Bool.{eqb-true}
 use Rattle.drives.specs.Drives.{areas_checked, magnetic_fits, magnetic_blocks, magnetic_table, magnetic_store, new_table}
 use Rattle.drives.proofs.Checked.{areas_passed, areas_refused}

@@ -1,5 +1,4 @@
-use Rattle.std.proofs.Common.{◌≡◌, false, vec_items, sym, refl, ap, ◌∙◌, ap₂}
-use Rattle.drives.specs.Drives.{new_table}
+use Rattle.std.proofs.Common.{false, sym, refl, ◌∙◌, ap₂}
 use Rattle.drives.specs.Table.{no_trip}
 use Rattle.drives.specs.Fresh.{grown, fresh_lawful}
 use Rattle.drives.proofs.table.ZoneTable.new.Goals as goal
@@ -9,7 +8,7 @@ invariant_of-result c =
     let n = c.args.geometry.counts in
     let l = fresh_lawful n c.args.geometry.limits in
     let e = sym c.in_ok-states.ensures in
-    (c.in_ok-states.states.ok.0 ∙ rw e at l.all_zones, (c.in_ok-resize.ensures.len, (rw e at l.states, (rw e at l.few_open, tt))))
+    record { all_states = c.in_ok-states.states.ok.0 ∙ rw e at l.all_zones; all_trips = c.in_ok-resize.ensures.len; possible = rw e at l.states; few_open = rw e at l.few_open }
 
 pub returns : goal.returns
 returns c =

@@ -1,4 +1,4 @@
-use Rattle.std.proofs.Common.{◌≡◌, ◌&&◌, sym, ap, ◌∙◌}
+use Rattle.std.proofs.Common.{◌&&◌, ap, ◌∙◌}
 use Rattle.zoned.specs.declared.conditions.ZoneState.{ZoneState}
 use Rattle.zoned.specs.Limits.{is_conventional}
 use Rattle.drives.specs.Machine.{machine, crowded, is_opening}

@@ -1,4 +1,4 @@
-use Rattle.std.proofs.Common.{◌≡◌, sym, ◌∙◌}
+use Rattle.std.proofs.Common.{sym, ◌∙◌}
 use Rattle.drives.specs.Table.{table_of}
 use Rattle.drives.proofs.Within.{lawful_table}
 use Rattle.drives.proofs.Passing.{asked_below, asked_passes, asked_turned}
