@@ -4,7 +4,7 @@ use Rattle.drives.specs.Drives.{new_table, trip_set}
 use Rattle.drives.specs.Table.{Table, table_after, table_verdict}
 use Rattle.setup.specs.Drive.{script_store, script_table, zero_blocks}
 use Rattle.setup.specs.declared.line.Setup.{Setup}
-use Rattle.setup.specs.Setup.{reading_on, setup_checked, setup_taken}
+use Rattle.setup.specs.Setup.{setup_checked, setup_taken}
 use Rattle.text.specs.Fields.{at_end}
 use Rattle.text.specs.Hexadecimal.{hex}
 use Rattle.text.specs.Pieces.{all_ended, cut_at, ended_lines, fields}

@@ -1,5 +1,5 @@
 -- Areas of zeros hold blocks of zeros.
-use Rattle.std.proofs.Common.{◌≡◌, ℕ, zero, suc, ◌+◌, ◌-◌, ◌*◌, ◌≤◌, Bool, true, false, cond, ◌&&◌, List, [], ◌∷◌, ◌++◌, length, take, drop, replicate, refl, ap, ◌∙◌, ap₂, suc-mul, arith}
+use Rattle.std.proofs.Common.{◌≡◌, ℕ, zero, suc, ◌+◌, ◌-◌, ◌*◌, Bool, true, false, cond, ◌&&◌, List, [], ◌∷◌, ◌++◌, replicate, refl, ap, ◌∙◌, ap₂, suc-mul, arith}
 use Rattle.std.proofs.lemmas.List.{take-replicate, drop-replicate, length-replicate, replicate-append-replicate}
 use Rattle.std.proofs.lemmas.Bool.{cond-true, and_from, eq-eqb, or_left}
 use Rattle.drives.specs.Areas.{pieces, blocks_in}

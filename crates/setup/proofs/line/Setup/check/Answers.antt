@@ -1,4 +1,4 @@
-use Rattle.std.proofs.Common.{◌≡◌, leb, sym, ap, ◌∙◌, arith}
+use Rattle.std.proofs.Common.{leb, sym, ap, ◌∙◌, arith}
 use Rattle.std.proofs.lemmas.Bool.{cond-true, cond-false, and_from, and_right, le-leb, lt-leb}
 use Rattle.zoned.specs.Limits.{within}
 use Rattle.drives.proofs.Checked.{counts_ok, counts_kept}
