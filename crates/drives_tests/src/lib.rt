@@ -2,6 +2,6 @@
 #![tactic(auto)]
 
 #[cfg(test)]
-mod drives;
+mod drive_examples;
 #[cfg(test)]
 mod limits;
