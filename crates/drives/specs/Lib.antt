@@ -4,6 +4,5 @@ pub mod Machine
 pub mod Table
 pub mod Trips
 pub mod Shapes
-pub mod Fresh
 pub mod Joined
 pub mod Pieces

@@ -1,17 +1,23 @@
 -- The blocks of an area, and of two areas, have the shape of the drive.
-use Rattle.std.specs.Prelude.{◌≡◌, ℕ, ◌+◌, ◌-◌, ◌*◌, ◌<◌, ◌≤◌, ◌⊎◌, [], ◌++◌, length, vec_items, slice_index_or}
+use Rattle.std.specs.Prelude.{◌≡◌, ℕ, ◌+◌, ◌-◌, ◌*◌, ◌<◌, ◌≤◌, true, ◌⊎◌, [], ◌++◌, length, vec_items, slice_index_or}
 use Rattle.std.proofs.Common.{sym, ap, ◌∙◌, inl, inr, arith}
 use Rattle.std.proofs.lemmas.List.{length-append, get_or_append_left, get_or-append_right}
 use Rattle.std.proofs.lemmas.Bool.{cases_lt}
+use Rattle.std.proofs.lemmas.Bool.Decides.{nat_tests}
+use Rattle.zoned.specs.declared.counts.Counts.{Counts}
+use Rattle.zoned.specs.Limits.{fits}
 use Rattle.zoned.specs.Rules.{Blocks, Shaped, block_at}
 use Rattle.drives.specs.declared.area.Area.{Area}
 use Rattle.drives.specs.declared.flash.Flash.{Flash}
 use Rattle.drives.specs.declared.magnetic.Magnetic.{Magnetic}
 use Rattle.drives.specs.Areas.{pieces, area_blocks}
 use Rattle.drives.specs.Drives.{flash_state, magnetic_state}
-use Rattle.drives.specs.Fresh.{sorts_fit}
 use Rattle.drives.specs.Joined.{block_first, block_second}
 use Rattle.drives.specs.Pieces.{length-pieces, places_in, bytes_in}
+
+-- the conventional zones are not more than all
+pub sorts_fit : (c : Counts) → fits c ≡ true → c.conventional ≤ c.zones
+sorts_fit c e = grind (arith, nat_tests)
 
 -- blocks of k zones of n blocks of b bytes
 pub record Shape (bs : Blocks) (k n b : ℕ) : Type 0 where

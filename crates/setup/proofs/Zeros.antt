@@ -4,7 +4,7 @@ use Rattle.std.proofs.lemmas.List.{take-replicate, drop-replicate, length-replic
 use Rattle.std.proofs.lemmas.Bool.{cond-true, and_from, eq-eqb, or_left}
 use Rattle.drives.specs.Areas.{pieces, blocks_in}
 use Rattle.drives.specs.Drives.{taken, held, is_area, magnetic_fits, magnetic_blocks, flash_fits, flash_blocks}
-use Rattle.drives.specs.Fresh.{sorts_fit}
+use Rattle.drives.specs.Shapes.{sorts_fit}
 use Rattle.zoned.specs.declared.counts.Counts.{Counts}
 use Rattle.zoned.specs.Limits.{within, is_none, kept, none}
 use Rattle.zoned.specs.Rules.{Blocks}

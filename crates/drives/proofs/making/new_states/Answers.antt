@@ -1,6 +1,6 @@
 use Rattle.std.proofs.Common.{◌-◌, ◌++◌, take, replicate, ◌∙◌, ap₂}
 use Rattle.drives.specs.Drives.{plain_zone, empty_zone}
-use Rattle.drives.specs.Fresh.{grown, resized}
+use Rattle.drives.proofs.Fresh.{grown, resized}
 use Rattle.drives.proofs.making.new_states.Goals as goal
 
 pub returns : goal.returns

@@ -1,5 +1,5 @@
 use Rattle.std.proofs.Common.{◌∙◌}
-use Rattle.drives.specs.Fresh.{grown}
+use Rattle.drives.proofs.Fresh.{grown}
 use Rattle.setup.proofs.bytes.filled.Goals as goal
 
 pub returns : goal.returns

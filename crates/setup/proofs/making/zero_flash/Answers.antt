@@ -1,6 +1,6 @@
 use Rattle.std.proofs.Common.{◌≡◌, ◌*◌, replicate, IfOk, vec_items, ap, ◌∙◌, subst, arith}
 use Rattle.drives.specs.Drives.{flash_store, flash_table, new_table}
-use Rattle.drives.specs.Fresh.{sorts_fit}
+use Rattle.drives.specs.Shapes.{sorts_fit}
 use Rattle.setup.proofs.Zeros.{flash_zeros}
 use Rattle.setup.proofs.making.zero_flash.Goals as goal
 

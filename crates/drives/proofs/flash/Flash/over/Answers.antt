@@ -1,5 +1,5 @@
 use Rattle.std.proofs.Common.{arith}
-use Rattle.drives.specs.Fresh.{sorts_fit}
+use Rattle.drives.specs.Shapes.{sorts_fit}
 use Rattle.drives.proofs.flash.Flash.over.Goals as goal
 
 pub new-requires-2 : goal.new-requires-2

@@ -1,6 +1,6 @@
 use Rattle.std.proofs.Common.{false, sym, refl, ◌∙◌, ap₂}
 use Rattle.drives.specs.Table.{no_trip}
-use Rattle.drives.specs.Fresh.{grown, fresh_lawful}
+use Rattle.drives.proofs.Fresh.{grown, fresh_lawful}
 use Rattle.drives.proofs.table.ZoneTable.new.Goals as goal
 
 pub invariant_of-result : goal.invariant_of-result

@@ -4,17 +4,13 @@ use Rattle.std.proofs.Common.{ap, ap₂, ◌∙◌, inl, inr, arith}
 use Rattle.std.proofs.lemmas.List.{length-append, length-replicate, take_all, get_or_append_left, get_or-append_right, get_or-replicate}
 use Rattle.std.proofs.lemmas.List.Sums.{sum_by-append, sum_by-cons}
 use Rattle.std.proofs.lemmas.Bool.{cases_lt, lt-ltb, le-ltb}
-use Rattle.std.proofs.lemmas.Bool.Decides.{nat_tests}
 use Rattle.zoned.specs.declared.conditions.ZoneState.{ZoneState}
 use Rattle.zoned.specs.declared.counts.Counts.{Counts}
 use Rattle.zoned.specs.Conditions.{is_open}
 use Rattle.zoned.specs.Limits.{fits}
 use Rattle.zoned.specs.Report.{Lawful, open_count, possible_at, no_zone}
 use Rattle.drives.specs.Drives.{new_states, new_table, plain_zone, empty_zone}
-
--- the conventional zones are not more than all
-pub sorts_fit : (c : Counts) → fits c ≡ true → c.conventional ≤ c.zones
-sorts_fit c e = grind (arith, nat_tests)
+use Rattle.drives.specs.Shapes.{sorts_fit}
 
 take_none : {X : Type 0} (n : ℕ) → take {A = X} n [] ≡ []
 take_none zero = refl
