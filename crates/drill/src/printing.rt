@@ -1,4 +1,4 @@
-ghost use Rattle.std.specs.Prelude.{◌≡◌, cond, [], ◌∷◌, ◌++◌, OnOk};
+ghost use Rattle.std.specs.Prelude.{◌≡◌, [], ◌∷◌, ◌++◌, OnOk};
 ghost use Rattle.drill.specs.Playing.{in_threes, input_reply, mark_line, read_reply, reply};
 ghost use Rattle.text.specs.Hexadecimal.{hex};
 

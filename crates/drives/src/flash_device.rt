@@ -3,7 +3,7 @@ ghost use Rattle.drives.specs.Drives.{flash_report, flash_state, flash_store, fl
 ghost use Rattle.drives.specs.Table.{table_outcome, table_verdict};
 ghost use Rattle.zoned.specs.Commands.{manage as managing, read as reading, write as writing};
 ghost use Rattle.zoned.specs.Rules.{blocks_after, buffer_after, outcome};
-ghost use Rattle.std.proofs.Common.{rules, arith};
+ghost use Rattle.std.proofs.Common.{rules};
 ghost use Rattle.drives.specs.Shapes.{flash_shaped};
 
 use crate::flash::Flash;
