@@ -1,6 +1,5 @@
-pub mod Within
-pub mod Passing
 pub mod Checked
-pub mod Tripped
 pub mod Fresh
+pub mod Passing
 pub mod States
+pub mod Tripped

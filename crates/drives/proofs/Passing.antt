@@ -1,7 +1,9 @@
--- The zone machine gives what the zone rules say.
-use Rattle.std.proofs.Common.{◌≡◌, ℕ, ◌<◌, Bool, true, false, not, ◌&&◌, ◌||◌, eqb, leb, List, length, set, Some, None, Ok, Err, Option, sym, refl, ap, ◌∙◌, subst, ap₂, arith}
+-- The zone machine gives what the zone rules say, and the zones of a drive become what they say.
+use Rattle.std.proofs.Common.{◌≡◌, ℕ, ◌+◌, ◌<◌, ◌≤◌, Bool, true, false, cond, not, ◌&&◌, ◌||◌, eqb, leb, List, [], ◌∷◌, length, count_by, vec_items, get_or, map, replicate, set, Some, None, Ok, Err, Option, Result, sym, refl, ap, ◌∙◌, subst, ap₂, arith}
 use Rattle.std.proofs.lemmas.Bool.Decides.{nat_tests}
-use Rattle.std.proofs.lemmas.List.{length-replicate}
+use Rattle.std.proofs.lemmas.List.{length-replicate, map-set, set-get_or, get_or-map}
+use Rattle.std.proofs.lemmas.List.Sums.{sum_by-cons}
+use Rattle.zoned.specs.declared.commands.Action.TheVariants as Act
 use Rattle.zoned.specs.declared.commands.Operation.{Operation}
 use Rattle.zoned.specs.declared.commands.Operation.TheVariants as Op
 use Rattle.zoned.specs.declared.conditions.Bad.{Bad}
@@ -12,12 +14,22 @@ use Rattle.zoned.specs.declared.refusals.DeviceRefusal.{DeviceRefusal}
 use Rattle.zoned.specs.declared.refusals.DeviceRefusal.TheVariants.{OutOfRange, OffPointer, WrongCondition, OpenLimit, Unwritten, Fault}
 use Rattle.zoned.specs.Commands.{Command, write, read, zone_of, operation_of}
 use Rattle.zoned.specs.Limits.{is_conventional}
-use Rattle.zoned.specs.Report.{Report, Lawful, zone_at, possible}
-use Rattle.zoned.specs.Rules.{turned_away, outside, shut, takes, opens, when, moved, with_zone, broken, judged, answer, report_after}
+use Rattle.zoned.specs.Report.{Report, Lawful, zone_at, no_zone, possible, open_count}
+use Rattle.zoned.specs.Rules.{turned_away, outside, shut, takes, opens, when, moved, with_zone, broken, judged, answer, report_after, turned, misuse}
+use Rattle.zoned.specs.Conditions.{is_open}
+use Rattle.zoned.proofs.Bounds.{pointer_within}
 use Rattle.zoned.proofs.Steps.{lawful_after}
+use Rattle.drives.specs.declared.table.ZoneTable.{ZoneTable}
+use Rattle.drives.specs.Shapes.{lawful_table}
+use Rattle.drives.specs.declared.machine.Request.{Request}
+use Rattle.drives.specs.declared.machine.Request.TheVariants.{Manage, Write, Read}
 use Rattle.drives.specs.declared.trips.Trip.{Trip}
+use Rattle.drives.specs.declared.zones.DriveZone.{DriveZone}
+use Rattle.drives.specs.Drives.{with_trip}
 use Rattle.drives.specs.Machine.{machine, next, crowded, is_opening}
-use Rattle.drives.specs.Table.{Table, asked, machined, ruled, refused, passed, due, worn, trip_at, table_with, table_outcome}
+use Rattle.drives.specs.Requests.{asked, operation, place}
+use Rattle.drives.specs.Table.{Table, table_of, tabled, machined, ruled, trip_at, table_with, table_outcome}
+use Rattle.drives.specs.Zones.{no_trip, due, worn, state_of, trip_on, zone_passed}
 
 -- ---- the machine is the table of the rules
 
@@ -51,115 +63,133 @@ barred sort full k q o p =
 abbrev state : Condition → ℕ → ZoneState
 state k q = record { condition = k; pointer = q }
 
-no : {A : Type 0} → false ≡ true → A
-no e = absurd (let z : ◌≡◌ {A = ℕ} 0 1 = cc in omega arith)
-
 machine_is : (sort : Bool) (n : ℕ) (full : Bool) (k : Condition) (q : ℕ) (o : Operation) (p : ℕ) → possible sort n k q ≡ true
     → machine sort n (is_opening o && full) k q o p ≡ machined (barred sort full k q o p) (moved n (state k q) o)
 machine_is sort n full k q o p h = grind (arith, nat_tests)
 
--- ---- a command that the machine takes, and one that it turns away
-
-skip : (t : Bool) (e : DeviceRefusal) (o : Option DeviceRefusal) → t ≡ false → when t e o ≡ o
-skip true e o h = no (sym h)
-skip false e o h = refl
-
-stop : (t : Bool) (e : DeviceRefusal) (o : Option DeviceRefusal) → t ≡ true → when t e o ≡ Some e
-stop true e o h = refl
-stop false e o h = no h
-
-turned_asked : (r : Report) (z : ℕ) (o : Operation) (p n : ℕ) → outside r.counts (asked z o p n) ≡ false
-    → turned_away r (asked z o p n) ≡ barred (is_conventional r.counts z) (crowded r) (zone_at r z).condition (zone_at r z).pointer o p
+turned_asked : (r : Report) (z : ℕ) (q : Request) → outside r.counts (asked z q) ≡ false
+    → turned_away r (asked z q) ≡ barred (is_conventional r.counts z) (crowded r) (zone_at r z).condition (zone_at r z).pointer (operation q) (place q)
 unfolding turned_away
-turned_asked r z Op.Open p n h = skip _ _ _ h
-turned_asked r z Op.Close p n h = skip _ _ _ h
-turned_asked r z Op.Finish p n h = skip _ _ _ h
-turned_asked r z Op.Reset p n h = skip _ _ _ h
-turned_asked r z Op.Write p n h = skip _ _ _ h
-turned_asked r z Op.Read p n h = skip _ _ _ h
+turned_asked r z (Manage Act.Open) h = rw h refl
+turned_asked r z (Manage Act.Close) h = rw h refl
+turned_asked r z (Manage Act.Finish) h = rw h refl
+turned_asked r z (Manage Act.Reset) h = rw h refl
+turned_asked r z (Write p n) h = rw h refl
+turned_asked r z (Read p n) h = rw h refl
 
-pub asked_below : (c : Counts) (z : ℕ) (o : Operation) (p n : ℕ) → outside c (asked z o p n) ≡ false → z < c.zones
-asked_below c z o p n h = grind (arith, nat_tests)
+pub asked_below : (c : Counts) (z : ℕ) (q : Request) → outside c (asked z q) ≡ false → z < c.zones
+asked_below c z q h = grind (arith, nat_tests)
 
 -- the machine does what the rules say
-pub next_ruled : (r : Report) (z : ℕ) (o : Operation) (p : ℕ) → Lawful r → outside r.counts (asked z o p r.counts.bytes) ≡ false → next r z o p ≡ ruled r z o p
-next_ruled r z o p l h =
-    machine_is (is_conventional r.counts z) r.counts.blocks (crowded r) (zone_at r z).condition (zone_at r z).pointer o p (l.states z (asked_below r.counts z o p r.counts.bytes h))
-    ∙ ap (λ t. machined t (moved r.counts.blocks (zone_at r z) o)) (sym (turned_asked r z o p r.counts.bytes h))
-
-machined_ok : (t : Option DeviceRefusal) (s u : ZoneState) → machined t s ≡ Ok u → (t ≡ None) × (s ≡ u)
-machined_ok (Some e) s u h = absurd (let z : ◌≡◌ {A = ℕ} 0 1 = cc in omega arith)
-machined_ok None s u h = (refl, cc)
-
-machined_err : (t : Option DeviceRefusal) (s : ZoneState) (e : DeviceRefusal) → machined t s ≡ Err e → t ≡ Some e
-machined_err (Some f) s e h = let g : f ≡ e = cc in ap Some g
-machined_err None s e h = absurd (let z : ◌≡◌ {A = ℕ} 0 1 = cc in omega arith)
-
-or_false : (b : Bool) → (b || false) ≡ b
-or_false true = refl
-or_false false = refl
-
--- what a command that passes leaves
-pub record Passes (t : Table) (z : ℕ) (o : Operation) (c : Command) (s : ZoneState) : Type 0 where
-  pub lawful : Lawful (with_zone t.told z s)
-  pub broken_lawful : (b : Bad) → Lawful (with_zone t.told z (broken (zone_at t.told z) o b))
-  pub outcome : table_outcome t c ≡ passed t z o s (due (trip_at t.trips z))
-
-passes : (t : Table) (c : Command) (s : ZoneState) → Lawful t.told → turned_away t.told c ≡ None → moved t.told.counts.blocks (zone_at t.told (zone_of c)) (operation_of c) ≡ s
-    → Passes t (zone_of c) (operation_of c) c s
-passes t c s l e m = record {
-  lawful = subst (λ u. Lawful (with_zone t.told (zone_of c) u)) m (subst (λ o. Lawful (report_after t.told c (judged o None))) e (lawful_after t.told c None l));
-  broken_lawful = λ b. subst (λ o. Lawful (report_after t.told c (judged o (Some b)))) e (lawful_after t.told c (Some b) l);
-  outcome = ap (λ o. (answer (judged o (due trip)), table_with t c (judged o (due trip)))) e ∙ at (due trip);
-}
-  where
-    trip : Trip
-    trip = trip_at t.trips (zone_of c)
-
-    at : (f : Option Bad) → (answer (judged None f), table_with t c (judged None f)) ≡ passed t (zone_of c) (operation_of c) s f
-    at (Some b) = ap (λ m. (Err Fault, record { told = with_zone t.told (zone_of c) (broken (zone_at t.told (zone_of c)) (operation_of c) b); trips = set t.trips (zone_of c) (worn trip); misused = m })) (or_false t.misused)
-    at None = ap₂ (λ u m. (Ok tt, record { told = with_zone t.told (zone_of c) u; trips = set t.trips (zone_of c) (worn trip); misused = m })) m (or_false t.misused)
-
-pub asked_passes : (t : Table) (z : ℕ) (o : Operation) (p : ℕ) (s : ZoneState) → Lawful t.told → ruled t.told z o p ≡ Ok s → Passes t z o (asked z o p t.told.counts.bytes) s
-asked_passes t z o p s l e = at o (machined_ok _ _ s e)
-  where
-    n : ℕ
-    n = t.told.counts.bytes
-
-    at : (o : Operation) → (turned_away t.told (asked z o p n) ≡ None) × (moved t.told.counts.blocks (zone_at t.told z) o ≡ s) → Passes t z o (asked z o p n) s
-    at Op.Open h = passes t (asked z Op.Open p n) s l h.0 h.1
-    at Op.Close h = passes t (asked z Op.Close p n) s l h.0 h.1
-    at Op.Finish h = passes t (asked z Op.Finish p n) s l h.0 h.1
-    at Op.Reset h = passes t (asked z Op.Reset p n) s l h.0 h.1
-    at Op.Write h = passes t (asked z Op.Write p n) s l h.0 h.1
-    at Op.Read h = passes t (asked z Op.Read p n) s l h.0 h.1
-
--- and what a command that is turned away leaves
-pub turned_outcome : (t : Table) (c : Command) (e : DeviceRefusal) → turned_away t.told c ≡ Some e
-    → table_outcome t c ≡ refused t e
-turned_outcome t c e h = ap (λ o. (answer (judged o f), table_with t c (judged o f))) h
-  where
-    f : Option Bad
-    f = due (trip_at t.trips (zone_of c))
-
-pub asked_turned : (t : Table) (z : ℕ) (o : Operation) (p : ℕ) (e : DeviceRefusal) → ruled t.told z o p ≡ Err e
-    → table_outcome t (asked z o p t.told.counts.bytes) ≡ refused t e
-asked_turned t z o p e h = turned_outcome t (asked z o p t.told.counts.bytes) e (machined_err _ _ e h)
+pub next_ruled : (r : Report) (z : ℕ) (q : Request) → Lawful r → outside r.counts (asked z q) ≡ false → next r z q ≡ ruled r z q
+next_ruled r z q l h =
+    machine_is (is_conventional r.counts z) r.counts.blocks (crowded r) (zone_at r z).condition (zone_at r z).pointer (operation q) (place q) (l.states z (asked_below r.counts z q h))
+    ∙ ap (λ t. machined t (moved r.counts.blocks (zone_at r z) (operation q))) (sym (turned_asked r z q h))
 
 -- a zone, a place or a length that the drive has not goes before everything else
-pub outside_outcome : (t : Table) (c : Command) → outside t.told.counts c ≡ true → table_outcome t c ≡ refused t OutOfRange
+pub outside_ruled : (r : Report) (z : ℕ) (q : Request) → outside r.counts (asked z q) ≡ true → ruled r z q ≡ Err OutOfRange
 unfolding turned_away
-outside_outcome t c h = turned_outcome t c OutOfRange (stop _ _ _ h)
+outside_ruled r z q h = rw h refl
+
+-- ---- a command that passes, and one that is turned away
+
+machined_ok : (t : Option DeviceRefusal) (s u : ZoneState) → machined t s ≡ Ok u → (t ≡ None) × (s ≡ u)
+machined_ok t s u h = (grind arith, grind arith)
+
+machined_err : (t : Option DeviceRefusal) (s : ZoneState) (e : DeviceRefusal) → machined t s ≡ Err e → t ≡ Some e
+machined_err t s e h = grind arith
+
+pub asked_inside : (r : Report) (z : ℕ) (q : Request) (s : ZoneState) → ruled r z q ≡ Ok s → outside r.counts (asked z q) ≡ false
+unfolding turned_away
+asked_inside r z q s h = grind arith
+
+or_false : (b : Bool) → (b || false) ≡ b
+or_false b = grind arith
+
+-- what a command that passes leaves of the zones, of which x is the one that it names
+pub record Taken (n : Counts) (zs : List DriveZone) (m : Bool) (c : Command) (z : ℕ) (after : Result Unit DeviceRefusal × DriveZone) : Type 0 where
+  pub lawful : Lawful (tabled n (set zs z after.1) m).told
+  pub outcome : table_outcome (tabled n zs m) c ≡ (after.0, tabled n (set zs z after.1) m)
+
+module _ (n : Counts) (zs : List DriveZone) (m : Bool) (c : Command) (s : ZoneState) (x : DriveZone)
+    (l : Lawful (tabled n zs m).told) (e : turned_away (tabled n zs m).told c ≡ None)
+    (k : moved n.blocks x.state (operation_of c) ≡ s)
+    (there : zone_at (tabled n zs m).told (zone_of c) ≡ x.state) (tripped : trip_at (map trip_on zs) (zone_of c) ≡ x.trip) where
+  abbrev told : Report
+  told = (tabled n zs m).told
+
+  left : (f : Option Bad) → ◌≡◌ {A = Result (Unit {0}) DeviceRefusal × Table} (answer (judged None f), table_with (tabled n zs m) c (judged None f)) ((zone_passed x (operation_of c) s f).0, tabled n (set zs (zone_of c) (zone_passed x (operation_of c) s f).1) m)
+  left (Some b) = rw (there, tripped, or_false m, map-set state_of, map-set trip_on) refl
+  left None = rw (there, tripped, or_false m, map-set state_of, map-set trip_on, k) refl
+
+  lawful_left : (f : Option Bad) → Lawful (report_after told c (judged None f)) → Lawful (tabled n (set zs (zone_of c) (zone_passed x (operation_of c) s f).1) m).told
+  lawful_left (Some b) h = rw map-set (rw there at h)
+  lawful_left None h = rw map-set (rw (there, k) at h)
+
+  taken : Taken n zs m c (zone_of c) (zone_passed x (operation_of c) s (due x.trip))
+  taken = record {
+    lawful = lawful_left (due x.trip) (rw (e) at (lawful_after told c (due x.trip) l));
+    outcome = rw (e, tripped) (left (due x.trip));
+  }
+
+module _ (n : Counts) (zs : List DriveZone) (m : Bool) (z : ℕ) (x : DriveZone) (i : z < length zs) (e : x ≡ get_or zs z x) where
+  pub state_there : zone_at (tabled n zs m).told z ≡ x.state
+  state_there = get_or-map state_of zs z x no_zone i ∙ ap state_of (sym e)
+
+  trip_there : trip_at (map trip_on zs) z ≡ x.trip
+  trip_there = get_or-map trip_on zs z x no_trip i ∙ ap trip_on (sym e)
+
+  pub asked_taken : (q : Request) (s : ZoneState) → Lawful (tabled n zs m).told → ruled (tabled n zs m).told z q ≡ Ok s → Taken n zs m (asked z q) z (zone_passed x (operation q) s (due x.trip))
+  asked_taken q s l h = at q (machined_ok _ _ s h)
+    where
+      at : (q : Request) → (turned_away (tabled n zs m).told (asked z q) ≡ None) × (moved n.blocks (zone_at (tabled n zs m).told z) (operation q) ≡ s)
+          → Taken n zs m (asked z q) z (zone_passed x (operation q) s (due x.trip))
+      at (Manage a) p = taken n zs m (asked z (Manage a)) s x l p.0 (rw state_there at p.1) state_there trip_there
+      at (Write w k) p = taken n zs m (asked z (Write w k)) s x l p.0 (rw state_there at p.1) state_there trip_there
+      at (Read w k) p = taken n zs m (asked z (Read w k)) s x l p.0 (rw state_there at p.1) state_there trip_there
+
+pub asked_turned : (n : Counts) (zs : List DriveZone) (m : Bool) (z : ℕ) (q : Request) (e : DeviceRefusal) → ruled (tabled n zs m).told z q ≡ Err e
+    → table_outcome (tabled n zs m) (asked z q) ≡ (Err e, tabled n zs (m || misuse (turned e)))
+asked_turned n zs m z q e h = rw (machined_err _ _ e h) refl
 
 -- of a write the zones see only how many bytes there are
-pub write_alike : (t : Table) (z p : ℕ) (b : List ℕ) (n : ℕ) → length b ≡ n → table_outcome t (write z p b) ≡ table_outcome t (asked z Op.Write p n)
+pub write_alike : (t : Table) (z p : ℕ) (b : List ℕ) → table_outcome t (write z p b) ≡ table_outcome t (write z p (replicate (length b) 0))
 unfolding turned_away
-write_alike t z p b n h = grind (arith, length-replicate)
+write_alike t z p b = grind (arith, length-replicate)
 
-pub record Inside (c : Counts) (z p k : ℕ) : Type 0 where
-  pub whole : k ≡ c.bytes
-  pub has : outside c (asked z Op.Write p c.bytes) ≡ false
+-- ---- the zones of a drive
 
--- where there is a block of k bytes, one can be written
-pub inside : (c : Counts) (z p k : ℕ) → not (outside c (read z p k)) ≡ true → Inside c z p k
-inside c z p k h = record { whole = grind (arith, nat_tests); has = grind (arith, nat_tests, length-replicate) }
+pub named_zone : (t : ZoneTable) (z : ℕ) (q : Request) (s : ZoneState) → ruled (table_of t).told z q ≡ Ok s → z < t.zones.len
+named_zone t z q s h =
+    let i = asked_below t.geometry.counts z q (asked_inside (table_of t).told z q s h) in
+    omega (arith, t.all_zones)
+
+pub table_taken : (t : ZoneTable) (z : ℕ) (q : Request) (s : ZoneState) (x : DriveZone) → ruled (table_of t).told z q ≡ Ok s → x ≡ get_or (vec_items t.zones) z x
+    → Taken t.geometry.counts (vec_items t.zones) t.misused (asked z q) z (zone_passed x (operation q) s (due x.trip))
+table_taken t z q s x h e =
+    let i = named_zone t z q s h in
+    let j : z < length (vec_items t.zones) = omega (arith, t.zones.ok.0) in
+    asked_taken t.geometry.counts (vec_items t.zones) t.misused z x j e q s (lawful_table t) h
+
+-- a zone's state as it is read
+pub read_pointer : (t : ZoneTable) (z : ℕ) (x : DriveZone) → z < t.geometry.counts.zones → x ≡ get_or (vec_items t.zones) z x → x.state.pointer ≤ t.geometry.counts.blocks
+read_pointer t z x h e =
+    let j : z < length (vec_items t.zones) = omega (arith, t.zones.ok.0, t.all_zones) in
+    rw (← state_there t.geometry.counts (vec_items t.zones) t.misused z x j e) (pointer_within (table_of t).told (lawful_table t) z h)
+
+pub read_state : (t : ZoneTable) (z : ℕ) (x : DriveZone) → z < t.geometry.counts.zones → x ≡ get_or (vec_items t.zones) z x → zone_at (table_of t).told z ≡ x.state
+read_state t z x h e =
+    let j : z < length (vec_items t.zones) = omega (arith, t.zones.ok.0, t.all_zones) in
+    state_there t.geometry.counts (vec_items t.zones) t.misused z x j e
+
+-- the open zones, counted among zones with trips
+pub open_among : (zs : List DriveZone) → count_by (λ (z : DriveZone). is_open z.state.condition) zs ≡ open_count (map state_of zs)
+open_among [] = refl
+open_among (z ∷ zs) = sum_by-cons (λ (z : DriveZone). cond (is_open z.state.condition) 1 0) z zs ∙ ap (λ n. cond (is_open z.state.condition) 1 0 + n) (open_among zs) ∙ sym (sum_by-cons (λ (s : ZoneState). cond (is_open s.condition) 1 0) z.state (map state_of zs))
+
+-- a zone that is given a trip keeps its state
+pub same_states : (zs : List DriveZone) (z : ℕ) (x : DriveZone) (t : Trip) → x ≡ get_or zs z x → map state_of (set zs z (record { state = x.state; trip = t })) ≡ map state_of zs
+same_states zs z x t e = map-set state_of zs z _ ∙ ap (λ y. set (map state_of zs) z (state_of y)) e ∙ sym (map-set state_of zs z (get_or zs z x)) ∙ ap (map state_of) (set-get_or zs z x)
+
+pub trip_given : (n : Counts) (zs : List DriveZone) (m : Bool) (z : ℕ) (x : DriveZone) (t : Trip) → x ≡ get_or zs z x → with_trip (tabled n zs m) z t ≡ tabled n (set zs z (record { state = x.state; trip = t })) m
+trip_given n zs m z x t e = rw (same_states zs z x t e, map-set trip_on) refl

@@ -7,8 +7,10 @@ use Rattle.zoned.specs.declared.refusals.DeviceRefusal.{DeviceRefusal}
 use Rattle.zoned.specs.Commands.{Command, manage, read}
 use Rattle.zoned.specs.Rules.{Blocks, Verdict, accepted, answer, outcome, outside, block_at, blocks_after, buffer_after, fetched, stored}
 use Rattle.zoned.proofs.Steps.{judged_by}
+use Rattle.drives.specs.Areas.{HasBlock}
 use Rattle.drives.specs.Drives.{drive}
-use Rattle.drives.specs.Table.{Table, table_outcome, table_verdict, due, trip_at}
+use Rattle.drives.specs.Table.{Table, table_outcome, table_verdict, trip_at}
+use Rattle.drives.specs.Zones.{due}
 
 -- a drive does what its zones do, and keeps or stores the bytes
 pub drive_outcome : (t u : Table) (bs : Blocks) (c : Command) (r : Result Unit DeviceRefusal) → table_outcome t c ≡ (r, u)
@@ -56,13 +58,7 @@ accepted_inside t u c h =
     (λ w q. w.inside)
     (ap (λ x. x.0) h)
 
--- where a block stands that an accepted write or read names
-pub record Named (c : Counts) (z p k : ℕ) : Type 0 where
-  pub zone : z < c.zones
-  pub place : p < c.blocks
-  pub bytes : k ≡ c.bytes
-
-pub named : (c : Counts) (z p k : ℕ) → outside c (read z p k) ≡ false → Named c z p k
+pub named : (c : Counts) (z p k : ℕ) → outside c (read z p k) ≡ false → HasBlock c.zones c z p k
 named c z p k h = record { zone = grind (arith, nat_tests); place = grind (arith, nat_tests); bytes = grind (arith, nat_tests) }
 
 -- the buffer of a read that is not accepted, and of one that is

@@ -7,7 +7,8 @@ use Rattle.zoned.specs.Commands.{zone_of}
 use Rattle.zoned.specs.Rules.{Verdict, turned, faulted, accepted}
 use Rattle.drives.specs.declared.trips.Trip.{Trip}
 use Rattle.drives.specs.Drives.{new_table}
-use Rattle.drives.specs.Table.{table_verdict, table_after, trip_at, trips_after, no_trip, worn}
+use Rattle.drives.specs.Table.{table_verdict, table_after, trip_at, trips_after}
+use Rattle.drives.specs.Zones.{no_trip, worn}
 use Rattle.drives.specs.Trips.{passes, passing, due_after, TripsCount, NewIsFaultless}
 
 -- a trip of a zone that the drive has not is none, and stays so

@@ -1,8 +1,10 @@
 pub mod Areas
 pub mod Drives
 pub mod Machine
+pub mod Requests
 pub mod Table
 pub mod Trips
+pub mod Zones
 pub mod Shapes
 pub mod Joined
 pub mod Pieces

@@ -10,6 +10,8 @@ use Rattle.zoned.specs.declared.refusals.DeviceRefusal.TheVariants.{OffPointer, 
 use Rattle.zoned.specs.Limits.{is_conventional}
 use Rattle.zoned.specs.Report.{Report, zone_at, open_count}
 use Rattle.zoned.specs.Rules.{filled}
+use Rattle.drives.specs.declared.machine.Request.{Request}
+use Rattle.drives.specs.Requests.{operation, place}
 
 -- a zone in this condition, with this pointer
 abbrev pub at : Condition → ℕ → Result ZoneState DeviceRefusal
@@ -73,5 +75,5 @@ is_opening Op.Write = false
 is_opening Op.Read = false
 
 -- the machine at a zone of a drive; only an opening asks how many zones are open
-abbrev pub next : Report → ℕ → Operation → ℕ → Result ZoneState DeviceRefusal
-next r z o p = machine (is_conventional r.counts z) r.counts.blocks (is_opening o && crowded r) (zone_at r z).condition (zone_at r z).pointer o p
+abbrev pub next : Report → ℕ → Request → Result ZoneState DeviceRefusal
+next r z q = machine (is_conventional r.counts z) r.counts.blocks (is_opening (operation q) && crowded r) (zone_at r z).condition (zone_at r z).pointer (operation q) (place q)

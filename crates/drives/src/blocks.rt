@@ -1,6 +1,6 @@
-ghost use Rattle.std.specs.Prelude.{◌≡◌, ◌+◌, ◌*◌, ◌<◌, ◌≤◌, length, take, drop, vec_len};
+ghost use Rattle.std.specs.Prelude.{◌≡◌, ◌+◌, ◌*◌, ◌≤◌, length, take, drop, vec_len};
 ghost use Rattle.std.proofs.Math.Seq.{paste};
-ghost use Rattle.drives.specs.Areas.{area_blocks, SameShape};
+ghost use Rattle.drives.specs.Areas.{area_blocks, HasBlock, SameShape};
 ghost use Rattle.zoned.specs.Rules.{block_at, with_block};
 
 use crate::area::Area;
@@ -10,9 +10,7 @@ use zoned::numbers::{Place, Zone};
 impl Area {
     // Writes a block over the one that stands there.
     pub(crate) fn put(&mut self, zone: Zone, place: Place, block: &[u8])
-        requires zone { zone.0 < self.old.zones }
-        requires place { place.0 < self.old.blocks }
-        requires bytes { length block.now ≡ self.old.bytes }
+        requires { HasBlock self.old.zones self.old.geometry.counts zone.0 place.0 (length block.now) }
         ensures blocks { area_blocks self.new ≡ with_block (area_blocks self.old) zone.0 place.0 block.now }
         ensures shape { SameShape self.old self.new }
     {
@@ -22,9 +20,7 @@ impl Area {
 
     // Reads the block that stands there.
     pub(crate) fn get(&self, zone: Zone, place: Place, buffer: &mut [u8])
-        requires zone { zone.0 < self.now.zones }
-        requires place { place.0 < self.now.blocks }
-        requires bytes { length buffer.old ≡ self.now.bytes }
+        requires { HasBlock self.now.zones self.now.geometry.counts zone.0 place.0 (length buffer.old) }
         ensures { buffer.new ≡ block_at (area_blocks self.now) zone.0 place.0 }
     {
         let at = self.start(zone, place);
@@ -33,12 +29,12 @@ impl Area {
 
     // Where a block begins.
     fn start(&self, zone: Zone, place: Place) -> usize
-        requires zone { zone.0 < self.now.zones }
-        requires place { place.0 < self.now.blocks }
-        ensures value { result ≡ (zone.0 * self.now.blocks + place.0) * self.now.bytes }
-        ensures within { result + self.now.bytes ≤ vec_len self.now.cells }
+        requires { HasBlock self.now.zones self.now.geometry.counts zone.0 place.0 self.now.geometry.counts.bytes }
+        ensures value { result ≡ (zone.0 * self.now.geometry.counts.blocks + place.0) * self.now.geometry.counts.bytes }
+        ensures within { result + self.now.geometry.counts.bytes ≤ vec_len self.now.cells }
     {
-        (zone.0 as usize * self.blocks as usize + place.0 as usize) * self.bytes as usize
+        let counts = self.geometry.counts;
+        (zone.0 as usize * counts.blocks as usize + place.0 as usize) * counts.bytes as usize
     }
 }
 

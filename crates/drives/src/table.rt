@@ -1,19 +1,17 @@
-ghost use Rattle.std.specs.Prelude.{◌≡◌, ℕ, ◌<◌, ◌≤◌, true, vec_len, slice_index_or};
+ghost use Rattle.std.specs.Prelude.{◌≡◌, ℕ, ◌<◌, ◌≤◌, true, map, vec_len, slice_index_or};
 ghost use Rattle.zoned.specs.Report.{no_zone, open_count, possible_at};
+ghost use Rattle.drives.specs.Zones.{state_of};
 
-use crate::trips::Trip;
-use zoned::conditions::ZoneState;
+use crate::zones::DriveZone;
 use zoned::geometry::Geometry;
 
-// All of a drive but its bytes: each zone's state and trip, and the misuse mark.
+// All of a drive but its bytes: each zone with its trip, and the misuse mark.
 #[derive(Drop)]
 pub struct ZoneTable {
     pub(crate) geometry: Geometry,
-    pub(crate) states: Vec<ZoneState>,
-    pub(crate) trips: Vec<Trip>,
+    pub(crate) zones: Vec<DriveZone>,
     pub(crate) misused: bool,
-    ghost all_states: { vec_len states ≡ geometry.counts.zones },
-    ghost all_trips: { vec_len trips ≡ geometry.counts.zones },
-    ghost possible: { (z : ℕ) → z < geometry.counts.zones → possible_at geometry.counts z (slice_index_or states.items z no_zone) ≡ true },
-    ghost few_open: { open_count states.items ≤ geometry.counts.open_limit },
+    ghost all_zones: { vec_len zones ≡ geometry.counts.zones },
+    ghost possible: { (z : ℕ) → z < geometry.counts.zones → possible_at geometry.counts z (slice_index_or (map state_of zones.items) z no_zone) ≡ true },
+    ghost few_open: { open_count (map state_of zones.items) ≤ geometry.counts.open_limit },
 }

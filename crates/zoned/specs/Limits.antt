@@ -1,5 +1,5 @@
 -- The limits of a geometry, and what is counted from it.
-use Rattle.std.specs.Prelude.{ℕ, ◌-◌, Bool, cond, ◌&&◌, ◌||◌, Ok, Err, Result, ◌==◌, nat_le, nat_lt}
+use Rattle.std.specs.Prelude.{ℕ, ◌-◌, ◌*◌, Bool, cond, ◌&&◌, ◌||◌, Ok, Err, Result, ◌==◌, nat_le, nat_lt}
 use Rattle.zoned.specs.declared.counts.Counts.{Counts}
 use Rattle.zoned.specs.declared.refusals.InputRefusal.{InputRefusal}
 use Rattle.zoned.specs.declared.refusals.InputRefusal.TheVariants as Input
@@ -44,6 +44,10 @@ chunk_count c = c.zones - 1 - c.reserve
 -- conventional zones that a volume may use: all but zone 0
 abbrev pub buffer_count : Counts → ℕ
 buffer_count c = c.conventional - 1
+
+-- bytes of so many zones
+abbrev pub bytes_of : Counts → ℕ → ℕ
+bytes_of c zones = zones * c.blocks * c.bytes
 
 abbrev pub is_conventional : Counts → ℕ → Bool
 is_conventional c z = nat_lt z c.conventional

@@ -22,23 +22,25 @@ pub enum Operation {
     Read,
 }
 
-impl Action {
-    // The code by which ZBC and NVMe name the action.
-    pub fn code(self) -> u8
-        ensures { result ≡ action_code self }
-    {
-        match self {
+// The code by which ZBC and NVMe name the action.
+impl From<Action> for u8 {
+    ghost from_gives = { λ action code. code ≡ action_code action };
+
+    fn from(action: Action) -> u8 {
+        match action {
             Action::Close => 0x01,
             Action::Finish => 0x02,
             Action::Open => 0x03,
             Action::Reset => 0x04,
         }
     }
+}
 
-    pub fn operation(self) -> Operation
-        ensures { result ≡ action_operation self }
-    {
-        match self {
+impl From<Action> for Operation {
+    ghost from_gives = { λ action operation. operation ≡ action_operation action };
+
+    fn from(action: Action) -> Operation {
+        match action {
             Action::Open => Operation::Open,
             Action::Close => Operation::Close,
             Action::Finish => Operation::Finish,

@@ -29,11 +29,19 @@ pub struct ZoneState {
 }
 
 impl Condition {
-    // The code by which ZBC and NVMe name the condition.
-    pub fn code(self) -> u8
-        ensures { result ≡ condition_code self }
+    pub fn is_bad(self) -> bool
+        ensures { result ≡ is_bad self }
     {
-        match self {
+        matches!(self, Condition::ReadOnly | Condition::Offline)
+    }
+}
+
+// The code by which ZBC and NVMe name the condition.
+impl From<Condition> for u8 {
+    ghost from_gives = { λ condition code. code ≡ condition_code condition };
+
+    fn from(condition: Condition) -> u8 {
+        match condition {
             Condition::Plain => 0x00,
             Condition::Empty => 0x01,
             Condition::Open => 0x03,
@@ -43,26 +51,13 @@ impl Condition {
             Condition::Offline => 0x0f,
         }
     }
-
-    pub fn is_bad(self) -> bool
-        ensures { result ≡ is_bad self }
-    {
-        match self {
-            Condition::ReadOnly | Condition::Offline => true,
-            Condition::Plain
-            | Condition::Empty
-            | Condition::Open
-            | Condition::Closed
-            | Condition::Full => false,
-        }
-    }
 }
 
-impl Bad {
-    pub fn condition(self) -> Condition
-        ensures { result ≡ bad_condition self }
-    {
-        match self {
+impl From<Bad> for Condition {
+    ghost from_gives = { λ bad condition. condition ≡ bad_condition bad };
+
+    fn from(bad: Bad) -> Condition {
+        match bad {
             Bad::ReadOnly => Condition::ReadOnly,
             Bad::Offline => Condition::Offline,
         }

@@ -1,5 +1,5 @@
 // The six counts of a drive as they are given, within the limits or not.
-#[derive(Clone, Copy, PartialEq, Eq, Debug)]
+#[derive(Clone, Copy, PartialEq, Eq, Debug, Default)]
 pub struct Counts {
     // zones of the drive
     pub zones: u32,

@@ -1,5 +1,5 @@
 ghost use Rattle.std.specs.Prelude.{◌≡◌, ℕ, ◌+◌, ◌-◌, ◌*◌, ◌<◌, ◌≤◌, MatchOption};
-ghost use Rattle.zoned.specs.Limits.{none as no_counts, within, checked, kept, chunk_count, buffer_count, is_conventional};
+ghost use Rattle.zoned.specs.Limits.{none as no_counts, within, checked, kept, chunk_count, buffer_count, bytes_of, is_conventional};
 ghost use Rattle.zoned.specs.Blocks.{located, Located};
 
 use crate::counts::Counts;
@@ -20,18 +20,12 @@ impl Counts {
             open_limit,
             reserve,
         } = self;
-        4 <= zones
-            && zones <= 64
-            && 2 <= conventional
-            && conventional < zones
-            && 2 <= blocks
-            && blocks <= 64
-            && 16 <= bytes
-            && bytes <= 512
-            && 1 <= open_limit
-            && open_limit <= 64
-            && 1 <= reserve
-            && reserve <= zones.saturating_sub(conventional)
+        (4..=64).contains(&zones)
+            && (2..zones).contains(&conventional)
+            && (2..=64).contains(&blocks)
+            && (16..=512).contains(&bytes)
+            && (1..=64).contains(&open_limit)
+            && (1..=zones.saturating_sub(conventional)).contains(&reserve)
     }
 
     // Turns counts outside the limits away.
@@ -62,14 +56,7 @@ impl Geometry {
         ensures { result.counts ≡ no_counts }
     {
         Geometry {
-            counts: Counts {
-                zones: 0,
-                conventional: 0,
-                blocks: 0,
-                bytes: 0,
-                open_limit: 0,
-                reserve: 0,
-            },
+            counts: Counts::default(),
         }
     }
 
@@ -88,6 +75,13 @@ impl Geometry {
         ensures { result ≡ buffer_count self.counts }
     {
         self.counts.conventional.saturating_sub(1)
+    }
+
+    // The bytes of so many zones.
+    pub fn bytes_of(self, zones: u32) -> usize
+        ensures { result ≡ bytes_of self.counts zones }
+    {
+        zones as usize * self.counts.blocks as usize * self.counts.bytes as usize
     }
 
     pub fn is_conventional(self, zone: Zone) -> bool

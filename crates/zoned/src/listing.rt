@@ -27,6 +27,6 @@ fn list_zone<R: Reporter>(reporter: &R, zone: Zone, out: &mut [u8])
     let state = reporter.zone(zone);
     let at = zone.0 as usize * 3;
     out[at] = zone.0 as u8;
-    out[at + 1] = state.condition.code();
+    out[at + 1] = u8::from(state.condition);
     out[at + 2] = state.pointer as u8;
 }

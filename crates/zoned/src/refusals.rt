@@ -1,5 +1,8 @@
-ghost use Rattle.std.specs.Prelude.{◌≡◌};
+ghost use Rattle.std.specs.Prelude.{◌≡◌, Some};
+ghost use Rattle.std.specs.Fmt.{decimal};
 ghost use Rattle.zoned.specs.Codes.{device_number, input_number};
+
+use std::fmt;
 
 // Why an input is turned away before anything is done.
 #[derive(Clone, Copy, PartialEq, Eq, Debug)]
@@ -29,11 +32,12 @@ pub enum DeviceRefusal {
     Fault,
 }
 
-impl InputRefusal {
-    pub fn number(self) -> u8
-        ensures { result ≡ input_number self }
-    {
-        match self {
+// Each refusal has a number of its own.
+impl From<InputRefusal> for u8 {
+    ghost from_gives = { λ refusal number. number ≡ input_number refusal };
+
+    fn from(refusal: InputRefusal) -> u8 {
+        match refusal {
             InputRefusal::Geometry => 1,
             InputRefusal::Length => 3,
             InputRefusal::Zone => 4,
@@ -41,11 +45,11 @@ impl InputRefusal {
     }
 }
 
-impl DeviceRefusal {
-    pub fn number(self) -> u8
-        ensures { result ≡ device_number self }
-    {
-        match self {
+impl From<DeviceRefusal> for u8 {
+    ghost from_gives = { λ refusal number. number ≡ device_number refusal };
+
+    fn from(refusal: DeviceRefusal) -> u8 {
+        match refusal {
             DeviceRefusal::OutOfRange => 21,
             DeviceRefusal::OffPointer => 22,
             DeviceRefusal::WrongCondition => 23,
@@ -53,5 +57,22 @@ impl DeviceRefusal {
             DeviceRefusal::Unwritten => 25,
             DeviceRefusal::Fault => 26,
         }
+    }
+}
+
+// A refusal is printed as its number.
+impl fmt::Display for InputRefusal {
+    ghost output = { λ refusal. Some (decimal (input_number refusal)) };
+
+    fn fmt<W: fmt::Write>(&self, f: &mut fmt::Formatter<W>) -> fmt::Result {
+        u8::from(*self).fmt(f)
+    }
+}
+
+impl fmt::Display for DeviceRefusal {
+    ghost output = { λ refusal. Some (decimal (device_number refusal)) };
+
+    fn fmt<W: fmt::Write>(&self, f: &mut fmt::Formatter<W>) -> fmt::Result {
+        u8::from(*self).fmt(f)
     }
 }

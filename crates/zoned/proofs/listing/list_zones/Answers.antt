@@ -6,9 +6,6 @@ use Rattle.zoned.specs.Listing.{listing}
 use Rattle.zoned.proofs.Listed.{length-listed, one_zone_more}
 use Rattle.zoned.proofs.listing.list_zones.Goals as goal
 
-pub returns-then-out-zones : goal.returns-then-out-zones
-returns-then-out-zones g c = let e = ap (λ n. n.zones) c.geometry-zones.ensures in grind (arith, nat_tests)
-
 pub loop-z-preserved : goal.loop-z-preserved
 loop-z-preserved g c =
     let r = g.R.Reporter.report c.args.reporter.now in
