@@ -1,2 +1,3 @@
 pub mod Threes
 pub mod Replied
+pub mod Numbers

@@ -1,14 +1,13 @@
 -- What a drill prints.
 use Rattle.std.specs.Prelude.{ℕ, Bool, true, false, cond, List, [], ◌∷◌, ◌++◌, replicate, Some, None, Ok, Err, Option, Result}
-use Rattle.drives.specs.Drives.{new_table, trip_set}
+use Rattle.drives.specs.Drives.{drive_store, drive_table, new_table, trip_set}
 use Rattle.drives.specs.Table.{Table, table_after, table_verdict}
-use Rattle.setup.specs.Drive.{script_store, script_table, zero_blocks}
 use Rattle.setup.specs.declared.line.Setup.{Setup}
-use Rattle.setup.specs.Setup.{setup_checked, setup_taken}
+use Rattle.setup.specs.Setup.{setup_checked, setup_taken, zero_blocks}
 use Rattle.text.specs.Fields.{at_end}
 use Rattle.text.specs.Hexadecimal.{hex}
 use Rattle.text.specs.Pieces.{all_ended, cut_at, ended_lines, fields}
-use Rattle.text.specs.Replies.{not_understood, ok_line, refusal}
+use Rattle.text.specs.Replies.{not_understood, numbered_answer, refusal}
 use Rattle.zoned.specs.declared.refusals.DeviceRefusal.{DeviceRefusal}
 use Rattle.zoned.specs.declared.refusals.InputRefusal.{InputRefusal}
 use Rattle.zoned.specs.Codes.{device_number, input_number}
@@ -27,17 +26,15 @@ pub record Model : Type 0 where
   pub blocks : Blocks
 
 abbrev pub model_of : Drill → Model
-model_of d = record { zones = script_table d.drive; blocks = script_store d.drive }
+model_of d = record { zones = drive_table d.drive; blocks = drive_store d.drive }
 
 -- ---- what is printed
 
 abbrev pub reply : Result Unit DeviceRefusal → List ℕ
-reply (Ok u) = ok_line
-reply (Err e) = refusal (device_number e)
+reply = numbered_answer device_number
 
 abbrev pub input_reply : Result Unit InputRefusal → List ℕ
-input_reply (Ok u) = ok_line
-input_reply (Err e) = refusal (input_number e)
+input_reply = numbered_answer input_number
 
 -- the bytes read, or why not
 abbrev pub read_reply : Result Unit DeviceRefusal → List ℕ → List ℕ

@@ -1,5 +1,6 @@
 -- The lines of a drill, from their fields.
 use Rattle.std.specs.Prelude.{ℕ, cond, ◌&&◌, List, [], ◌∷◌, length, Some, None, Option, ◌==◌, slice_index}
+use Rattle.std.specs.Option.{option_map}
 use Rattle.setup.specs.Setup.{is_word}
 use Rattle.text.specs.Decimal.{decimal}
 use Rattle.text.specs.Fields.{and_then, at_end, taken}
@@ -10,32 +11,14 @@ use Rattle.zoned.specs.declared.conditions.Bad.{Bad}
 use Rattle.zoned.specs.declared.conditions.Bad.TheVariants as BadAs
 use Rattle.drill.specs.declared.instruction.Instruction.{Instruction}
 use Rattle.drill.specs.declared.instruction.Instruction.TheVariants as To
-use Rattle.drill.specs.declared.instruction.Letter.{Letter}
-use Rattle.drill.specs.declared.instruction.Letter.TheVariants as By
-
--- t, o, c, f, x, w, r, l and q
-abbrev pub letter_at : ℕ → Option Letter
-letter_at b =
-    cond (b == 116) (Some By.SetTrip)
-    (cond (b == 111) (Some (By.Manage Act.Open))
-    (cond (b == 99) (Some (By.Manage Act.Close))
-    (cond (b == 102) (Some (By.Manage Act.Finish))
-    (cond (b == 120) (Some (By.Manage Act.Reset))
-    (cond (b == 119) (Some By.Write)
-    (cond (b == 114) (Some By.Read)
-    (cond (b == 108) (Some By.List)
-    (cond (b == 113) (Some By.Mark)
-    None))))))))
-
--- a field of one letter
-abbrev pub letter_of : List ℕ → Option Letter
-letter_of [] = None
-letter_of (b ∷ []) = letter_at b
-letter_of (b ∷ (c ∷ cs)) = None
+use Rattle.drill.specs.declared.reading.FaultWord.{FaultWord}
 
 -- ro or off
 abbrev pub bad_of : List ℕ → Option Bad
 bad_of w = cond (length w == 2 && (slice_index w 0 == 114 && slice_index w 1 == 111)) (Some BadAs.ReadOnly) (cond (is_word 111 102 102 w) (Some BadAs.Offline) None)
+
+abbrev pub fault_word : List ℕ → Option FaultWord
+fault_word w = option_map (λ b. record { 0 = b }) (bad_of w)
 
 -- zone, count, condition
 abbrev pub trip_of : List (List ℕ) → Option Instruction
@@ -64,15 +47,26 @@ read_of ws =
     and_then (taken decimal ws) (λ place ws.
     at_end ws (To.Read (record { 0 = zone }) (record { 0 = place }))))
 
--- the fields after a letter
-abbrev pub lettered : Letter → List (List ℕ) → Option Instruction
-lettered By.SetTrip ws = trip_of ws
-lettered (By.Manage a) ws = manage_of a ws
-lettered By.Write ws = write_of ws
-lettered By.Read ws = read_of ws
-lettered By.List ws = at_end ws To.List
-lettered By.Mark ws = at_end ws To.Mark
+-- the fields after the field of a letter: t, o, c, f, x, w, r, l or q
+abbrev pub lettered_by : ℕ → List (List ℕ) → Option Instruction
+lettered_by b ws =
+    cond (b == 116) (trip_of ws)
+    (cond (b == 111) (manage_of Act.Open ws)
+    (cond (b == 99) (manage_of Act.Close ws)
+    (cond (b == 102) (manage_of Act.Finish ws)
+    (cond (b == 120) (manage_of Act.Reset ws)
+    (cond (b == 119) (write_of ws)
+    (cond (b == 114) (read_of ws)
+    (cond (b == 108) (at_end ws To.List)
+    (cond (b == 113) (at_end ws To.Mark)
+    None))))))))
+
+-- a letter is a field of one byte
+abbrev pub lettered : List ℕ → List (List ℕ) → Option Instruction
+lettered [] ws = None
+lettered (b ∷ []) ws = lettered_by b ws
+lettered (b ∷ (c ∷ cs)) ws = None
 
 -- what a line of these fields asks for, if it is understood
 abbrev pub instruction_of : List (List ℕ) → Option Instruction
-instruction_of ws = and_then (taken letter_of ws) lettered
+instruction_of ws = and_then (taken Some ws) lettered

@@ -1,9 +1,9 @@
-use setup::drive::ScriptDrive;
+use drives::drive::Drive;
 use std::alloc::Global;
 
 // A drive that is drilled.
 #[derive(Drop)]
 pub struct Drill {
-    pub(crate) drive: ScriptDrive,
+    pub(crate) drive: Drive,
     pub(crate) heap: Global,
 }

@@ -13,14 +13,3 @@ pub enum Instruction {
     List,
     Mark,
 }
-
-// The first field of a line.
-#[derive(Clone, Copy)]
-pub enum Letter {
-    SetTrip,
-    Manage(Action),
-    Write,
-    Read,
-    List,
-    Mark,
-}

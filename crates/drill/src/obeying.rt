@@ -1,17 +1,16 @@
 ghost use Rattle.std.specs.Prelude.{◌≡◌, ◌*◌, ◌++◌, length, OnOk};
 ghost use Rattle.drill.specs.declared.instruction.Instruction.TheVariants as To;
 ghost use Rattle.drill.specs.Playing.{bytes_of, in_threes, model_of, obeyed, printed};
-ghost use Rattle.setup.specs.Drive.{script_report};
+ghost use Rattle.drives.specs.Drives.{drive_report};
 ghost use Rattle.zoned.specs.Listing.{listing as all_listed};
 
 use crate::drill::Drill;
 use crate::instruction::Instruction;
-use crate::printing::{put_answer, put_input_answer, put_mark, put_read, put_threes};
-use drives::trips::Trip;
+use crate::printing::{put_mark, put_read, put_threes};
+use drives::drive::Drive;
 use setup::bytes::filled;
-use setup::drive::ScriptDrive;
 use std::alloc::AllocError;
-use zoned::commands::Action;
+use text::replies::put_answer;
 use zoned::device::{Reporter, ZonedDevice};
 use zoned::listing::list_zones;
 use zoned::numbers::{Place, Zone};
@@ -26,25 +25,13 @@ impl Drill {
         ensures { OnOk result (printed (obeyed (model_of self.old) instruction) out.old.items ≡ (model_of self.new, out.new.items)) }
     {
         match instruction {
-            Instruction::SetTrip(zone, trip) => self.set_trip(zone, trip, out),
-            Instruction::Manage(zone, action) => self.manage(zone, action, out),
+            Instruction::SetTrip(zone, trip) => put_answer(out, self.drive.set_trip(zone, trip)),
+            Instruction::Manage(zone, action) => put_answer(out, self.drive.manage(zone, action)),
             Instruction::Write(zone, place, byte) => self.write(zone, place, byte, out),
             Instruction::Read(zone, place) => self.read(zone, place, out),
             Instruction::List => self.list(out),
-            Instruction::Mark => self.mark(out),
+            Instruction::Mark => put_mark(out, self.drive.misused()),
         }
-    }
-
-    fn set_trip(&mut self, zone: Zone, trip: Trip, out: &mut Vec<u8>) -> Result<(), AllocError>
-        ensures { OnOk result (printed (obeyed (model_of self.old) (To.SetTrip zone trip)) out.old.items ≡ (model_of self.new, out.new.items)) }
-    {
-        put_input_answer(out, self.drive.set_trip(zone, trip))
-    }
-
-    fn manage(&mut self, zone: Zone, action: Action, out: &mut Vec<u8>) -> Result<(), AllocError>
-        ensures { OnOk result (printed (obeyed (model_of self.old) (To.Manage zone action)) out.old.items ≡ (model_of self.new, out.new.items)) }
-    {
-        put_answer(out, self.drive.manage(zone, action))
     }
 
     fn write(
@@ -90,17 +77,11 @@ impl Drill {
         let mut listing = filled(self.heap, zones * 3, 0)?;
         list_into(&self.drive, &mut listing, out)
     }
-
-    fn mark(&mut self, out: &mut Vec<u8>) -> Result<(), AllocError>
-        ensures { OnOk result (printed (obeyed (model_of self.old) To.Mark) out.old.items ≡ (model_of self.new, out.new.items)) }
-    {
-        put_mark(out, self.drive.misused())
-    }
 }
 
-fn list_into(drive: &ScriptDrive, listing: &mut [u8], out: &mut Vec<u8>) -> Result<(), AllocError>
-    requires { length listing.old ≡ (script_report drive.now).counts.zones * 3 }
-    ensures { OnOk result (out.new.items ≡ out.old.items ++ in_threes (all_listed (script_report drive.now))) }
+fn list_into(drive: &Drive, listing: &mut [u8], out: &mut Vec<u8>) -> Result<(), AllocError>
+    requires { length listing.old ≡ (drive_report drive.now).counts.zones * 3 }
+    ensures { OnOk result (out.new.items ≡ out.old.items ++ in_threes (all_listed (drive_report drive.now))) }
 {
     let _ = list_zones(drive, listing);
     put_threes(out, listing)

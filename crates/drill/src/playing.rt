@@ -1,27 +1,28 @@
-ghost use Rattle.std.specs.Prelude.{◌≡◌, IfOk, OnOk};
+ghost use Rattle.std.specs.Prelude.{◌≡◌, IfOk, IfSome, OnOk};
 ghost use Rattle.drill.specs.Playing.{drill_prints, first_understood, line_answered, model_of, printed, set_up, transcript};
 ghost use Rattle.setup.specs.Setup.{setup_checked, setup_taken};
 ghost use Rattle.text.specs.Pieces.{fields};
-ghost use Rattle.text.specs.Replies.{refusal};
+ghost use Rattle.text.specs.Replies.{refusal_line};
 ghost use Rattle.std.proofs.Common.{rules};
 
 use crate::drill::Drill;
 use crate::reading::read_instruction;
 use setup::line::{Setup, read_setup};
 use std::alloc::{AllocError, Global};
+use std::fmt::Display;
 use text::fields::Fields;
-use text::lines::{NOT_UNDERSTOOD, Player, first_line, play_lines};
-use text::replies::put_refusal;
+use text::lines::{Player, first_line, play_lines};
+use text::replies::{NotUnderstood, put_refusal};
 
 // What a whole script prints: its first line sets a drive up, and the others are played on it.
 pub fn play(heap: Global, script: &[u8]) -> Result<Vec<u8>, AllocError>
     ensures { IfOk result (λ v. v.items ≡ transcript script.now) }
 {
     let Some((line, rest)) = first_line(script) else {
-        return refused(heap, NOT_UNDERSTOOD);
+        return refused(heap, NotUnderstood);
     };
     let Some(setup) = read_first(line) else {
-        return refused(heap, NOT_UNDERSTOOD);
+        return refused(heap, NotUnderstood);
     };
     play_on(heap, setup, rest)
 }
@@ -30,7 +31,7 @@ fn play_on(heap: Global, setup: Setup, lines: &[u8]) -> Result<Vec<u8>, AllocErr
     ensures { IfOk result (λ v. v.items ≡ set_up setup lines.now (setup_checked setup)) }
 {
     if let Err(refusal) = setup.check() {
-        return refused(heap, u32::from(refusal.number()));
+        return refused(heap, refusal);
     }
     let drive = setup.make(heap)?;
     play_lines(Drill { drive, heap }, heap, lines)
@@ -46,11 +47,11 @@ fn read_first(line: &[u8]) -> Option<Setup>
 }
 
 // The one line that a script of which nothing is played prints.
-fn refused(heap: Global, number: u32) -> Result<Vec<u8>, AllocError>
-    ensures { IfOk result (λ v. v.items ≡ refusal number) }
+fn refused<R: Display + Drop>(heap: Global, refusal: R) -> Result<Vec<u8>, AllocError>
+    ensures { IfOk result (λ v. IfSome (R.output refusal) (λ text. v.items ≡ refusal_line text)) }
 {
     let mut out = Vec::new(heap);
-    put_refusal(&mut out, number)?;
+    put_refusal(&mut out, refusal)?;
     Ok(out)
 }
 
@@ -71,7 +72,7 @@ impl Drill {
     {
         match read_instruction(line) {
             Some(instruction) => self.obey(instruction, out),
-            None => put_refusal(out, NOT_UNDERSTOOD),
+            None => put_refusal(out, NotUnderstood),
         }
     }
 }

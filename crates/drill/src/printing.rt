@@ -1,36 +1,11 @@
 ghost use Rattle.std.specs.Prelude.{◌≡◌, [], ◌∷◌, ◌++◌, OnOk};
-ghost use Rattle.drill.specs.Playing.{in_threes, input_reply, mark_line, read_reply, reply};
+ghost use Rattle.drill.specs.Playing.{in_threes, mark_line, read_reply};
 ghost use Rattle.text.specs.Hexadecimal.{hex};
 
 use std::alloc::AllocError;
 use text::hex::put_hex;
-use text::replies::{put_ok, put_refusal};
-use zoned::refusals::{DeviceRefusal, InputRefusal};
-
-// `ok`, or `no` and the number.
-pub(crate) fn put_answer(
-    out: &mut Vec<u8>,
-    answer: Result<(), DeviceRefusal>,
-) -> Result<(), AllocError>
-    ensures { OnOk result (out.new.items ≡ out.old.items ++ reply answer) }
-{
-    match answer {
-        Ok(()) => put_ok(out),
-        Err(refusal) => put_refusal(out, u32::from(refusal.number())),
-    }
-}
-
-pub(crate) fn put_input_answer(
-    out: &mut Vec<u8>,
-    answer: Result<(), InputRefusal>,
-) -> Result<(), AllocError>
-    ensures { OnOk result (out.new.items ≡ out.old.items ++ input_reply answer) }
-{
-    match answer {
-        Ok(()) => put_ok(out),
-        Err(refusal) => put_refusal(out, u32::from(refusal.number())),
-    }
-}
+use text::replies::put_refusal;
+use zoned::refusals::DeviceRefusal;
 
 // The bytes read, or `no` and the number.
 pub(crate) fn put_read(
@@ -42,7 +17,7 @@ pub(crate) fn put_read(
 {
     match answer {
         Ok(()) => put_bytes(out, bytes),
-        Err(refusal) => put_refusal(out, u32::from(refusal.number())),
+        Err(refusal) => put_refusal(out, refusal),
     }
 }
 
@@ -59,10 +34,8 @@ fn put_bytes(out: &mut Vec<u8>, bytes: &[u8]) -> Result<(), AllocError>
 pub(crate) fn put_threes(out: &mut Vec<u8>, bytes: &[u8]) -> Result<(), AllocError>
     ensures { OnOk result (out.new.items ≡ out.old.items ++ in_threes bytes.now) }
 {
-    let mut left = bytes;
-    while left.len() >= 3 {
-        put_bytes(out, &left[0..3])?;
-        left = &left[3..];
+    for three in bytes.chunks_exact(3) {
+        put_bytes(out, three)?;
     }
     Ok(())
 }

@@ -1,5 +1,4 @@
-use drives::flash::Flash;
-use drives::magnetic::Magnetic;
+use drives::drive::Drive;
 use drives::trips::Trip;
 use std::test::Fail;
 use zoned::commands::Action;
@@ -32,12 +31,15 @@ const NO_RESERVE: Counts = Counts {
 #[test]
 fn refused_areas(rt: HostRuntime) -> Result<(), Fail> {
     let short = [0u8; 127].to_vec(rt.alloc())?;
-    assert_eq!(rt; Magnetic::check(COUNTS, &short), Err(InputRefusal::Length));
     assert_eq!(rt;
-        Magnetic::check(NO_RESERVE, &short),
+        Drive::check_magnetic(COUNTS, &short),
+        Err(InputRefusal::Length)
+    );
+    assert_eq!(rt;
+        Drive::check_magnetic(NO_RESERVE, &short),
         Err(InputRefusal::Geometry)
     );
-    let mut drive = Magnetic::new(rt.alloc(), COUNTS, short)?;
+    let mut drive = Drive::magnetic(rt.alloc(), COUNTS, short)?;
     assert_eq!(rt; drive.geometry().counts.zones, 0);
     assert_eq!(rt;
         drive.zone(Zone(0)),
@@ -59,8 +61,11 @@ fn refused_areas(rt: HostRuntime) -> Result<(), Fail> {
 fn areas_are_kept(rt: HostRuntime) -> Result<(), Fail> {
     let conventional = [7u8; 64].to_vec(rt.alloc())?;
     let sequential = [9u8; 64].to_vec(rt.alloc())?;
-    assert_eq!(rt; Flash::check(COUNTS, &conventional, &sequential), Ok(()));
-    let mut drive = Flash::new(rt.alloc(), COUNTS, conventional, sequential)?;
+    assert_eq!(rt;
+        Drive::check_flash(COUNTS, &conventional, &sequential),
+        Ok(())
+    );
+    let mut drive = Drive::flash(rt.alloc(), COUNTS, conventional, sequential)?;
     let mut buffer = [0u8; 16];
     assert_eq!(rt; drive.read(Zone(1), Place(1), &mut buffer), Ok(()));
     assert_eq!(rt; buffer.as_slice(), [7u8; 16].as_slice());
@@ -77,7 +82,7 @@ fn areas_are_kept(rt: HostRuntime) -> Result<(), Fail> {
 // A slice of another length than three bytes a zone stays as it was.
 #[test]
 fn listings(rt: HostRuntime) -> Result<(), Fail> {
-    let mut drive = Magnetic::new(rt.alloc(), COUNTS, [0u8; 128].to_vec(rt.alloc())?)?;
+    let mut drive = Drive::magnetic(rt.alloc(), COUNTS, [0u8; 128].to_vec(rt.alloc())?)?;
     assert_eq!(rt; drive.manage(Zone(2), Action::Open), Ok(()));
     let mut short = [5u8; 11];
     assert_eq!(rt; list_zones(&drive, &mut short), Err(InputRefusal::Length));
@@ -94,7 +99,7 @@ fn listings(rt: HostRuntime) -> Result<(), Fail> {
 // The second command that passes faults; one that is turned away does not count.
 #[test]
 fn trips(rt: HostRuntime) -> Result<(), Fail> {
-    let mut drive = Magnetic::new(rt.alloc(), COUNTS, [0u8; 128].to_vec(rt.alloc())?)?;
+    let mut drive = Drive::magnetic(rt.alloc(), COUNTS, [0u8; 128].to_vec(rt.alloc())?)?;
     assert_eq!(rt;
         drive.set_trip(
             Zone(4),

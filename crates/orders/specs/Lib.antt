@@ -1,2 +1,4 @@
 pub mod Orders
+pub mod Items
+pub mod Keyed
 pub mod Four

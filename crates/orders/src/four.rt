@@ -1,9 +1,8 @@
-ghost use Rattle.std.specs.Prelude.{◌≡◌};
-ghost use Rattle.orders.specs.Four.{by_key, fewest, lowest, oldest, victim_number, worn, zone_number};
-ghost use Rattle.std.proofs.Common.{rules};
+ghost use Rattle.std.specs.Prelude.{refl};
+ghost use Rattle.orders.specs.Four.{fewest, lowest, oldest, worn};
 
 use crate::items::{FreeZone, Victim};
-use crate::order::Order;
+use crate::keyed::Keyed;
 
 // The victim that writes the fewest blocks; of two alike, the lowest chunk.
 #[derive(Clone, Copy)]
@@ -21,69 +20,59 @@ pub struct Lowest;
 #[derive(Clone, Copy)]
 pub struct Worn;
 
-impl Order for Fewest {
+impl Keyed for Fewest {
     type Item = Victim;
 
-    ghost number = { λ _. victim_number };
+    ghost key = { λ v. v.blocks };
 
-    ghost precedes = { λ _. fewest };
+    ghost precedes = { fewest };
 
-    ghost ordered = { Prim.search rules };
+    ghost is_by_key = { refl };
 
-    fn before(&self, a: &Victim, b: &Victim) -> bool {
-        before_by(a.blocks, a.chunk.0, b.blocks, b.chunk.0)
+    fn key(victim: &Victim) -> u32 {
+        victim.blocks
     }
 }
 
-impl Order for Oldest {
+impl Keyed for Oldest {
     type Item = Victim;
 
-    ghost number = { λ _. victim_number };
+    ghost key = { λ v. v.stamp };
 
-    ghost precedes = { λ _. oldest };
+    ghost precedes = { oldest };
 
-    ghost ordered = { Prim.search rules };
+    ghost is_by_key = { refl };
 
-    fn before(&self, a: &Victim, b: &Victim) -> bool {
-        before_by(a.stamp, a.chunk.0, b.stamp, b.chunk.0)
+    fn key(victim: &Victim) -> u32 {
+        victim.stamp
     }
 }
 
-impl Order for Lowest {
+// All keys are equal, so the number alone decides.
+impl Keyed for Lowest {
     type Item = FreeZone;
 
-    ghost number = { λ _. zone_number };
+    ghost key = { λ _. 0 };
 
-    ghost precedes = { λ _. lowest };
+    ghost precedes = { lowest };
 
-    ghost ordered = { Prim.search rules };
+    ghost is_by_key = { refl };
 
-    fn before(&self, a: &FreeZone, b: &FreeZone) -> bool {
-        a.zone.0 < b.zone.0
+    fn key(_zone: &FreeZone) -> u32 {
+        0
     }
 }
 
-impl Order for Worn {
+impl Keyed for Worn {
     type Item = FreeZone;
 
-    ghost number = { λ _. zone_number };
+    ghost key = { λ f. f.resets };
 
-    ghost precedes = { λ _. worn };
+    ghost precedes = { worn };
 
-    ghost ordered = { Prim.search rules };
+    ghost is_by_key = { refl };
 
-    fn before(&self, a: &FreeZone, b: &FreeZone) -> bool {
-        before_by(a.resets, a.zone.0, b.resets, b.zone.0)
-    }
-}
-
-// The lower key goes first; of equal keys, the lower number.
-fn before_by(key: u32, number: u32, other_key: u32, other_number: u32) -> bool
-    ensures { result ≡ by_key key number other_key other_number }
-{
-    if key == other_key {
-        number < other_number
-    } else {
-        key < other_key
+    fn key(zone: &FreeZone) -> u32 {
+        zone.resets
     }
 }

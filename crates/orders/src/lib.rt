@@ -3,5 +3,6 @@
 
 pub mod four;
 pub mod items;
+pub mod keyed;
 pub mod order;
 pub mod search;

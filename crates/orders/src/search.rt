@@ -1,9 +1,10 @@
 ghost use Rattle.std.specs.Prelude.{◌≡◌, ℕ, Option as Maybe};
-ghost use Rattle.orders.specs.Orders.{Apart, IsFirst, better, first_below};
+ghost use Rattle.orders.specs.Orders.{Apart, IsFirst, first_below};
 
 use crate::order::Order;
 
 // Whoever has items for the search. The places below the count are asked one by one, and each has an item or none.
+// No `Iterator`, since whoever searches through one has to require that it may be asked, and that it ends.
 pub trait Candidates {
     type Item;
 
@@ -22,31 +23,14 @@ pub trait Candidates {
 pub fn first<O: Order, C: Candidates<Item = O::Item>>(order: &O, from: &C) -> Option<O::Item>
 where
     O::Item: Copy,
-    ensures value { result ≡ first_below (O.Order.precedes order.now) (C.Candidates.candidate_at from.now) (C.Candidates.places from.now) }
-    ensures first { Apart (O.Order.number order.now) (C.Candidates.candidate_at from.now) (C.Candidates.places from.now) → IsFirst (O.Order.precedes order.now) (C.Candidates.candidate_at from.now) (C.Candidates.places from.now) result }
+    ensures value { result ≡ first_below (O.precedes order.now) (C.candidate_at from.now) (C.places from.now) }
+    ensures first { Apart (O.number order.now) (C.candidate_at from.now) (C.places from.now) → IsFirst (O.precedes order.now) (C.candidate_at from.now) (C.places from.now) result }
 {
-    let mut best = None;
-    for place in 0..from.count() {
-        best = better_of(order, best, from.candidate(place));
-    }
-    best
-}
-
-// The one of the two that precedes the other.
-fn better_of<O: Order>(order: &O, best: Option<O::Item>, more: Option<O::Item>) -> Option<O::Item>
-where
-    O::Item: Copy,
-    ensures { result ≡ better (O.Order.precedes order.now) best more }
-{
-    let Some(item) = more else {
-        return best;
-    };
-    let Some(least) = best else {
-        return Some(item);
-    };
-    if order.before(&item, &least) {
-        Some(item)
-    } else {
-        Some(least)
-    }
+    (0..from.count())
+        .filter_map(|place| from.candidate(place))
+        .reduce(|best, item| if order.before(&item, &best) {
+            item
+        } else {
+            best
+        })
 }

@@ -8,7 +8,7 @@ use Rattle.drives.specs.Shapes.{sorts_fit}
 use Rattle.zoned.specs.declared.counts.Counts.{Counts}
 use Rattle.zoned.specs.Limits.{within, is_none, kept, none}
 use Rattle.zoned.specs.Rules.{Blocks}
-use Rattle.setup.specs.Drive.{zero_blocks}
+use Rattle.setup.specs.Setup.{zero_blocks}
 
 pieces-replicate : {A : Type 0} (k n : ℕ) (x : A) → pieces k n (replicate (k * n) x) ≡ replicate k (replicate n x)
 pieces-replicate zero n x = refl

@@ -6,7 +6,5 @@ use std::alloc::{AllocError, Global};
 pub fn filled(heap: Global, count: usize, byte: u8) -> Result<Vec<u8>, AllocError>
     ensures { IfOk result (λ v. v.items ≡ replicate count byte) }
 {
-    let mut bytes = Vec::new(heap);
-    bytes.resize(count, byte)?;
-    Ok(bytes)
+    vec![in heap; byte; count]
 }

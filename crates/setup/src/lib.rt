@@ -2,6 +2,5 @@
 #![tactic(auto)]
 
 pub mod bytes;
-pub mod drive;
 pub mod line;
 pub mod making;

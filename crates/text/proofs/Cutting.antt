@@ -1,29 +1,39 @@
 -- Where a text is cut, and what its fields and its lines then are.
-use Rattle.std.proofs.Common.{◌≡◌, ℕ, zero, suc, ◌+◌, ◌<◌, false, cond, eqb, List, [], ◌∷◌, length, get_or, take, drop, Some, None, Option, sym, refl, ap, ◌∙◌, subst, add-one, arith}
-use Rattle.std.specs.Option.{option_map}
-use Rattle.std.proofs.lemmas.Bool.{cond-true, cond-false, cond_both, eq-eqb, ne_eqb}
+use Rattle.std.proofs.Common.{◌≡◌, ℕ, zero, suc, ◌+◌, ◌<◌, Bool, true, false, cond, eqb, List, [], ◌∷◌, length, get_or, take, drop, Some, None, Option, sym, refl, ap, ◌∙◌, subst, add-one, arith}
+use Rattle.std.specs.List.{AllWithin, HoldsAt}
+use Rattle.std.specs.Option.{MatchOption, option_map}
+use Rattle.std.proofs.lemmas.Bool.{cond-true, cond-false, cond_both, ne_eqb}
+use Rattle.std.proofs.lemmas.Bool.Decides.{nat_tests}
 use Rattle.text.specs.Fields.{none_left}
 use Rattle.text.specs.Pieces.{before, cut_at, onto, fields, ended_lines, ends_ended, all_ended}
 
 -- the bytes below n are not the mark
-abbrev pub Unmarked : ℕ → List ℕ → ℕ → Type 0
+abbrev Unmarked : ℕ → List ℕ → ℕ → Type 0
 Unmarked m xs n = (k : ℕ) → k < n → get_or xs k 0 ≡ m → ⊥
 
 cut_suc : (m : ℕ) (xs : List ℕ) (i : ℕ) → i < length xs → Unmarked m xs i → get_or xs i 0 ≡ m → cut_at m xs ≡ Some (take i xs, drop (suc i) xs)
 cut_suc m [] i l none is = absurd (omega arith)
-cut_suc m (x ∷ xs) zero l none is = cond-true (eqb x m) (Some ([], xs)) (option_map (before x) (cut_at m xs)) (eq-eqb x m is)
+cut_suc m (x ∷ xs) zero l none is = grind (arith, nat_tests)
 cut_suc m (x ∷ xs) (suc i) l none is =
     let rest = cut_suc m xs i (omega arith) (λ k h. none (suc k) (omega arith)) is in
-    cond-false (eqb x m) (Some ([], xs)) (option_map (before x) (cut_at m xs)) (ne_eqb x m (none 0 (omega arith))) ∙ ap (option_map (before x)) rest
+    let other = none 0 (omega arith) in
+    grind (arith, nat_tests)
 
-pub cut_found : (m : ℕ) (xs : List ℕ) (i : ℕ) → i < length xs → Unmarked m xs i → get_or xs i 0 ≡ m → cut_at m xs ≡ Some (take i xs, drop (i + 1) xs)
-cut_found m xs i l none is = rw add-one (cut_suc m xs i l none is)
-
-pub cut_none : (m : ℕ) (xs : List ℕ) → Unmarked m xs (length xs) → cut_at m xs ≡ None
+cut_none : (m : ℕ) (xs : List ℕ) → Unmarked m xs (length xs) → cut_at m xs ≡ None
 cut_none m [] none = refl
 cut_none m (x ∷ xs) none =
     let rest = cut_none m xs (λ k h. none (suc k) (omega arith)) in
-    cond-false (eqb x m) (Some ([], xs)) (option_map (before x) (cut_at m xs)) (ne_eqb x m (none 0 (omega arith))) ∙ ap (option_map (before x)) rest
+    let other = none 0 (omega arith) in
+    grind (arith, nat_tests)
+
+-- the mark is first met at i, or not at all
+abbrev pub FirstMark : ℕ → List ℕ → Option ℕ → Type 0
+FirstMark m xs first =
+    MatchOption first (AllWithin (λ x. x ≡ m → ⊥) xs 0 (length xs)) (λ i. (i < length xs) × HoldsAt (λ x. x ≡ m) xs i × AllWithin (λ x. x ≡ m → ⊥) xs 0 i)
+
+pub cut_first : (m : ℕ) (xs : List ℕ) (first : Option ℕ) → FirstMark m xs first → cut_at m xs ≡ option_map (λ i. (take i xs, drop (i + 1) xs)) first
+cut_first m xs None none = cut_none m xs (λ k h. none k 0 (omega arith) h)
+cut_first m xs (Some i) at = rw add-one (cut_suc m xs i at.0 (λ k h. at.2 k 0 (omega arith) h) (at.1 0))
 
 -- F takes a text apart at each mark, and `whole` is what it makes of a text with no mark
 module _ (m : ℕ) (F whole : List ℕ → List (List ℕ))
@@ -66,12 +76,12 @@ no_line = apart_none 10 ended_lines (λ xs. []) refl (λ x xs. refl) (λ x xs. r
 -- a line has a field
 pub field_left : (xs : List ℕ) → None ≡ none_left (fields xs)
 field_left [] = refl
-field_left (x ∷ xs) =
-    cond_both (eqb x 32) ([] ∷ fields xs) (onto x (fields xs)) (λ ws. None ≡ none_left ws) (λ t. refl) (λ t. grown (fields xs) (field_left xs))
+field_left (x ∷ xs) = grown (eqb x 32) (fields xs) (field_left xs)
   where
-    grown : (ws : List (List ℕ)) → None ≡ none_left ws → None ≡ none_left (onto x ws)
-    grown [] h = h
-    grown (w ∷ ws) h = refl
+    grown : (t : Bool) (ws : List (List ℕ)) → None ≡ none_left ws → None ≡ none_left (cond t ([] ∷ ws) (onto x ws))
+    grown true ws h = refl
+    grown false [] h = h
+    grown false (w ∷ ws) h = refl
 
 -- what stands after the first byte 10 is shorter, and ends as the text does
 abbrev Ends : List ℕ → Option (List ℕ × List ℕ) → Type 0

@@ -2,3 +2,4 @@
 pub mod Cutting
 pub mod Figures
 pub mod Nibbles
+pub mod Numbered

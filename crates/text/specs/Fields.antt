@@ -2,16 +2,11 @@
 use Rattle.std.specs.Prelude.{ℕ, List, [], ◌∷◌, Some, None, Option}
 use Rattle.std.specs.Borrow.{Bor}
 use Rattle.text.specs.Pieces.{fields}
-use Rattle.text.specs.declared.fields.Fields.{Fields}
 
 -- the fields of the text that is left
 abbrev pub fields_left : Option (Bor (List ℕ)) → List (List ℕ)
 fields_left None = []
 fields_left (Some line) = fields line.now
-
--- the fields that are not yet taken
-abbrev pub left : Fields → List (List ℕ)
-left s = fields_left s.rest
 
 -- the next field as `f` reads it, and the fields after it
 abbrev pub taken : {A : Type 0} → (List ℕ → Option A) → List (List ℕ) → Option A × List (List ℕ)

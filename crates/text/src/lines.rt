@@ -5,11 +5,8 @@ ghost use Rattle.text.specs.Pieces.{all_ended, both_now, cut_at, ended_lines};
 ghost use Rattle.text.specs.Replies.{not_understood};
 
 use crate::cut::cut;
-use crate::replies::put_refusal;
+use crate::replies::{NotUnderstood, put_refusal};
 use std::alloc::{AllocError, Global};
-
-// The number of the refusal of a line that is not understood.
-pub const NOT_UNDERSTOOD: u32 = 7;
 
 // The first line, without its byte 10, and what stands after it.
 pub fn first_line(text: &[u8]) -> Option<(&[u8], &[u8])>
@@ -45,7 +42,7 @@ pub fn play_lines<P: Player + Drop>(
         left = rest;
     }
     if !left.is_empty() {
-        put_refusal(&mut out, NOT_UNDERSTOOD)?;
+        put_refusal(&mut out, NotUnderstood)?;
     }
     Ok(out)
 }

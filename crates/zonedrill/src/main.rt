@@ -11,17 +11,15 @@ fn main(rt: HostRuntime) -> anyhow::Result<()> {
 }
 
 fn run(rt: &HostRuntime) -> anyhow::Result<()> {
-    let mut named = false;
-    for name in env::args(rt)?.skip(1) {
-        named = true;
-        if name.as_str() == "-" {
-            play_input(rt)?;
-        } else {
-            play_file(rt, name.as_str())?;
-        }
+    let mut names = env::args(rt)?.skip(1).peekable();
+    if names.peek().is_none() {
+        return play_input(rt);
     }
-    if !named {
-        play_input(rt)?;
+    for name in names {
+        match name.as_str() {
+            "-" => play_input(rt)?,
+            file => play_file(rt, file)?,
+        }
     }
     Ok(())
 }

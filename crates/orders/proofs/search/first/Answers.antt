@@ -1,19 +1,23 @@
-use Rattle.std.proofs.Common.{◌≡◌, sym, ap, ◌∙◌, subst, add-one, arith, rules}
-use Rattle.orders.specs.Orders.{IsFirst, first_below}
+use Rattle.std.proofs.Common.{◌≡◌, ◌∙◌, sym, subst, arith, rules, tests}
+use Rattle.std.specs.List.{filter_map, range_with_len, reduce}
+use Rattle.std.proofs.lemmas.Iterator.{YieldsList-from_range}
+use Rattle.std.proofs.lemmas.Iterator.Consumers.{YieldsList-from_filter_map}
+use Rattle.orders.specs.Orders.{IsFirst}
+use Rattle.orders.proofs.Chain.{chain_is, kept}
 use Rattle.orders.proofs.Firsts.{first_is}
+use Rattle.orders.proofs.Reduce.{reduced}
 use Rattle.orders.proofs.search.first.Goals as goal
-
-pub loop-place-preserved : goal.loop-place-preserved
-loop-place-preserved g c = rw add-one (search rules)
 
 pub returns : goal.returns
 returns g c =
     let p = g.O.Order.precedes c.args.order.now in
     let f = g.C.Candidates.candidate_at c.args.from.now in
     let n = g.C.Candidates.places c.args.from.now in
-    let m : c.loop-place.place ≡ n = omega (arith, c.loop-place.auto.place-end) in
-    let e = c.loop-place.invariant ∙ ap (first_below p f) m in
+    let chain : c.reduce.result ≡ reduce (kept p) (filter_map f (range_with_len 0 n)) =
+    reduced (kept p) _ _ _ (λ a x b q k. search (rules, tests)) c.reduce.ensures.ran
+    (YieldsList-from_filter_map _ f (YieldsList-from_range 0 n n (cc) (omega arith)) c.filter_map.ensures.closure (λ x r q k. search (rules, tests))) in
+    let value = chain ∙ chain_is p f n in
     record {
-      value = e;
-      first = λ a. subst (IsFirst p f n) (sym e) (first_is (g.O.Order.number c.args.order.now) p (g.met.O.Order.ordered c.args.order.now) f n a);
+      value = value;
+      first = λ a. subst (IsFirst p f n) (sym value) (first_is (g.O.Order.number c.args.order.now) p (g.met.O.Order.ordered c.args.order.now) f n a);
     }

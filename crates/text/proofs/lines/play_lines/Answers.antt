@@ -1,4 +1,4 @@
-use Rattle.std.proofs.Common.{[], ◌++◌, vec_items, sym, ap, ◌∙◌}
+use Rattle.std.proofs.Common.{◌≡◌, true, false, [], vec_items}
 use Rattle.std.proofs.lemmas.List.{append-nil}
 use Rattle.std.proofs.lemmas.Bool.{cond-true, cond-false}
 use Rattle.text.specs.Pieces.{all_ended, ended_lines}
@@ -17,7 +17,6 @@ loop-line-preserved g c =
     let rest = c.in-Some.rest.now in
     let next = next_line_is left line rest c.in-Some.ensures in
     let ends = next_line_ends left line rest c.in-Some.ensures in
-    let printed = ap (λ ls. vec_items c.loop-line.out ++ g.P.Player.prints c.loop-line.player ls) next in
     let answered = c.in_ok-answer.ensures (ended_lines rest) in
     (cc, cc)
 
@@ -25,18 +24,18 @@ pub returns : goal.returns
 returns g c =
     let left = c.loop-line.left.now in
     let text = c.args.text.now in
-    let out = vec_items c.loop-line.out in
     let none = no_line left c.in_default.ensures in
-    let quiet = ap (g.P.Player.prints c.loop-line.player) none ∙ g.met.P.Player.quiet c.loop-line.player in
-    let all = c.loop-line.invariant.0 ∙ ap (λ t. out ++ t) quiet ∙ append-nil out in
-    let ends = c.loop-line.invariant.1 ∙ no_line_ends left c.in_default.ensures ∙ sym c.is_empty.ensures in
+    let ends = no_line_ends left c.in_default.ensures in
+    let quiet = g.met.P.Player.quiet c.loop-line.player in
+    let all = append-nil (vec_items c.loop-line.out) in
     elim c.if-not-is_empty.branch [
       | then-not-is_empty+in_ok-put_refusal w ↦
-          let tail = cond-false (all_ended text) [] not_understood (ends ∙ w.if-not-is_empty.true) in
+          let rest : all_ended text ≡ false = cc in
+          let tail = cond-false (all_ended text) [] not_understood rest in
           let put = w.in_ok-put_refusal.ensures in
           cc
       | else-not-is_empty w ↦
-          let tail = cond-true (all_ended text) [] not_understood (ends ∙ w.if-not-is_empty.false) in
-          let same = append-nil out in
+          let rest : all_ended text ≡ true = cc in
+          let tail = cond-true (all_ended text) [] not_understood rest in
           cc
     ]

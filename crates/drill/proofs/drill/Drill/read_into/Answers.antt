@@ -1,6 +1,6 @@
 use Rattle.std.proofs.Common.{vec_items}
 use Rattle.std.proofs.lemmas.Result.{IfOk-weaker}
-use Rattle.setup.specs.Drive.{script_store, script_table}
+use Rattle.drives.specs.Drives.{drive_store, drive_table}
 use Rattle.drill.proofs.Replied.{read_done}
 use Rattle.drill.proofs.drill.Drill.read_into.Goals as goal
 
@@ -10,5 +10,5 @@ returns c =
     let e = c.read-answer.new.self in
     let f = c.read-answer.ensures in
     IfOk-weaker c.put_read.result _ _
-    (λ x h. read_done (script_table d) (script_table e) (script_store d) (script_store e) c.args.zone c.args.place c.args.buffer.now c.read-answer.new.buffer (vec_items c.args.out.now) (vec_items c.put_read.new.out) c.read-answer.result c.requires f.zones f.store f.buffer h)
+    (λ x h. read_done (drive_table d) (drive_table e) (drive_store d) (drive_store e) c.args.zone c.args.place c.args.buffer.now c.read-answer.new.buffer (vec_items c.args.out.now) (vec_items c.put_read.new.out) c.read-answer.result c.requires f.zones f.store f.buffer h)
     c.put_read.ensures

@@ -1,0 +1,5 @@
+// Examples of answers to lines, each as a test.
+#![tactic(auto)]
+
+#[cfg(test)]
+mod answers;
