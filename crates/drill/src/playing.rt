@@ -1,5 +1,5 @@
-ghost use Rattle.std.specs.Prelude.{◌≡◌, IfOk, IfSome, OnOk};
-ghost use Rattle.drill.specs.Playing.{drill_prints, first_understood, line_answered, model_of, printed, set_up, transcript};
+ghost use Rattle.std.specs.Prelude.{◌≡◌, IfOk, IfSome};
+ghost use Rattle.drill.specs.Playing.{drill_prints, first_understood, set_up, transcript};
 ghost use Rattle.setup.specs.Setup.{setup_checked, setup_taken};
 ghost use Rattle.text.specs.Pieces.{fields};
 ghost use Rattle.text.specs.Replies.{refusal_line};
@@ -61,15 +61,6 @@ impl Player for Drill {
     ghost quiet = { Prim.search rules };
 
     fn answer(&mut self, line: &[u8], out: &mut Vec<u8>) -> Result<(), AllocError> {
-        self.answer_line(line, out)?;
-        Ok(())
-    }
-}
-
-impl Drill {
-    fn answer_line(&mut self, line: &[u8], out: &mut Vec<u8>) -> Result<(), AllocError>
-        ensures { OnOk result (printed (line_answered (model_of self.old) line.now) out.old.items ≡ (model_of self.new, out.new.items)) }
-    {
         match read_instruction(line) {
             Some(instruction) => self.obey(instruction, out),
             None => put_refusal(out, NotUnderstood),
