@@ -12,9 +12,10 @@ use Rattle.zoned.specs.Listing.{listed, listing}
 use Rattle.zoned.specs.Report.{Report}
 use Rattle.zoned.specs.Rules.{Blocks, Verdict, turned, faulted, accepted, answer, block_at, blocks_after, buffer_after, fetched}
 use Rattle.drill.specs.declared.instruction.Instruction.TheVariants as To
-use Rattle.drill.specs.Playing.{Model, obeyed, printed, read_reply}
+use Rattle.drill.specs.Drilled.{Drilled}
+use Rattle.drill.specs.Playing.{obeyed, printed, read_reply}
 
-abbrev model : Table → Blocks → Model
+abbrev model : Table → Blocks → Drilled
 model t bs = record { zones = t; blocks = bs }
 
 -- of the buffer only a read that is accepted prints

@@ -1,2 +1,3 @@
+pub mod Drilled
 pub mod Reading
 pub mod Playing

@@ -1,6 +1,6 @@
 -- What a drill prints.
 use Rattle.std.specs.Prelude.{ℕ, Bool, true, false, cond, List, [], ◌∷◌, ◌++◌, replicate, Some, None, Ok, Err, Option, Result}
-use Rattle.drives.specs.Drives.{drive_store, drive_table, new_table, trip_set}
+use Rattle.drives.specs.Drives.{new_table, trip_set}
 use Rattle.drives.specs.Table.{Table, table_after, table_verdict}
 use Rattle.setup.specs.declared.line.Setup.{Setup}
 use Rattle.setup.specs.Setup.{setup_checked, setup_taken, zero_blocks}
@@ -15,18 +15,10 @@ use Rattle.zoned.specs.Commands.{Command, manage, read, write}
 use Rattle.zoned.specs.Limits.{kept}
 use Rattle.zoned.specs.Listing.{listing}
 use Rattle.zoned.specs.Rules.{Blocks, Verdict, answer, block_at, blocks_after}
-use Rattle.drill.specs.declared.drill.Drill.{Drill}
 use Rattle.drill.specs.declared.instruction.Instruction.{Instruction}
 use Rattle.drill.specs.declared.instruction.Instruction.TheVariants as To
+use Rattle.drill.specs.Drilled.{Drilled}
 use Rattle.drill.specs.Reading.{instruction_of}
-
--- a drive in a drill: its zones with their trips, and its blocks
-pub record Model : Type 0 where
-  pub zones : Table
-  pub blocks : Blocks
-
-abbrev pub model_of : Drill → Model
-model_of d = record { zones = drive_table d.drive; blocks = drive_store d.drive }
 
 -- ---- what is printed
 
@@ -55,17 +47,17 @@ mark_line false = 100 ∷ (111 ∷ (119 ∷ (110 ∷ (10 ∷ []))))
 
 -- ---- what is done
 
-abbrev pub verdict_on : Model → Command → Verdict
+abbrev pub verdict_on : Drilled → Command → Verdict
 verdict_on m c = table_verdict m.zones c
 
-abbrev pub commanded : Model → Command → Model
+abbrev pub commanded : Drilled → Command → Drilled
 commanded m c = record { zones = table_after m.zones c; blocks = blocks_after m.blocks c (verdict_on m c) }
 
-abbrev pub bytes_of : Model → ℕ
+abbrev pub bytes_of : Drilled → ℕ
 bytes_of m = m.zones.told.counts.bytes
 
 -- the drive after an instruction, and what is printed for it
-abbrev pub obeyed : Model → Instruction → Model × List ℕ
+abbrev pub obeyed : Drilled → Instruction → Drilled × List ℕ
 obeyed m (To.SetTrip z t) = (record { zones = (trip_set m.zones z.0 t).1; blocks = m.blocks }, input_reply (trip_set m.zones z.0 t).0)
 obeyed m (To.Manage z a) = (commanded m (manage a z.0), reply (answer (verdict_on m (manage a z.0))))
 obeyed m (To.Write z p b) = (commanded m (write z.0 p.0 (replicate (bytes_of m) b)), reply (answer (verdict_on m (write z.0 p.0 (replicate (bytes_of m) b)))))
@@ -74,23 +66,20 @@ obeyed m To.List = (m, in_threes (listing m.zones.told))
 obeyed m To.Mark = (m, mark_line m.zones.misused)
 
 -- what was printed before stays before it
-abbrev pub printed : Model × List ℕ → List ℕ → Model × List ℕ
+abbrev pub printed : Drilled × List ℕ → List ℕ → Drilled × List ℕ
 printed p out = (p.0, out ++ p.1)
 
-abbrev pub answered : Model → Option Instruction → Model × List ℕ
+abbrev pub answered : Drilled → Option Instruction → Drilled × List ℕ
 answered m None = (m, not_understood)
 answered m (Some i) = obeyed m i
 
 -- a line, and the lines of a drill
-abbrev pub line_answered : Model → List ℕ → Model × List ℕ
+abbrev pub line_answered : Drilled → List ℕ → Drilled × List ℕ
 line_answered m line = answered m (instruction_of (fields line))
 
-abbrev pub drilled : Model → List (List ℕ) → List ℕ
+abbrev pub drilled : Drilled → List (List ℕ) → List ℕ
 drilled m [] = []
 drilled m (line ∷ lines) = (line_answered m line).1 ++ drilled (line_answered m line).0 lines
-
-abbrev pub drill_prints : Drill → List (List ℕ) → List ℕ
-drill_prints d lines = drilled (model_of d) lines
 
 -- ---- a whole script
 
@@ -99,7 +88,7 @@ abbrev pub first_understood : Option Setup × List (List ℕ) → Option Setup
 first_understood (None, ws) = None
 first_understood (Some s, ws) = at_end ws s
 
-abbrev pub new_model : Setup → Model
+abbrev pub new_model : Setup → Drilled
 new_model s = record { zones = new_table (kept s.counts); blocks = zero_blocks (kept s.counts) }
 
 abbrev pub set_up : Setup → List ℕ → Result Unit InputRefusal → List ℕ

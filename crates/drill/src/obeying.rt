@@ -1,6 +1,6 @@
 ghost use Rattle.std.specs.Prelude.{◌≡◌, ◌*◌, ◌++◌, length, OnOk};
 ghost use Rattle.drill.specs.declared.instruction.Instruction.TheVariants as To;
-ghost use Rattle.drill.specs.Playing.{bytes_of, in_threes, model_of, obeyed, printed};
+ghost use Rattle.drill.specs.Playing.{bytes_of, in_threes, obeyed, printed};
 ghost use Rattle.drives.specs.Drives.{drive_report};
 ghost use Rattle.zoned.specs.Listing.{listing as all_listed};
 
@@ -22,7 +22,7 @@ impl Drill {
         instruction: Instruction,
         out: &mut Vec<u8>,
     ) -> Result<(), AllocError>
-        ensures { OnOk result (printed (obeyed (model_of self.old) instruction) out.old.items ≡ (model_of self.new, out.new.items)) }
+        ensures { OnOk result (printed (obeyed self.old instruction) out.old.items ≡ (self.new, out.new.items)) }
     {
         match instruction {
             Instruction::SetTrip(zone, trip) => put_answer(out, self.drive.set_trip(zone, trip)),
@@ -41,7 +41,7 @@ impl Drill {
         byte: u8,
         out: &mut Vec<u8>,
     ) -> Result<(), AllocError>
-        ensures { OnOk result (printed (obeyed (model_of self.old) (To.Write zone place byte)) out.old.items ≡ (model_of self.new, out.new.items)) }
+        ensures { OnOk result (printed (obeyed self.old (To.Write zone place byte)) out.old.items ≡ (self.new, out.new.items)) }
     {
         let bytes = self.drive.geometry().counts.bytes;
         let block = filled(self.heap, bytes as usize, byte)?;
@@ -49,7 +49,7 @@ impl Drill {
     }
 
     fn read(&mut self, zone: Zone, place: Place, out: &mut Vec<u8>) -> Result<(), AllocError>
-        ensures { OnOk result (printed (obeyed (model_of self.old) (To.Read zone place)) out.old.items ≡ (model_of self.new, out.new.items)) }
+        ensures { OnOk result (printed (obeyed self.old (To.Read zone place)) out.old.items ≡ (self.new, out.new.items)) }
     {
         let bytes = self.drive.geometry().counts.bytes;
         let mut buffer = filled(self.heap, bytes as usize, 0)?;
@@ -63,15 +63,15 @@ impl Drill {
         buffer: &mut [u8],
         out: &mut Vec<u8>,
     ) -> Result<(), AllocError>
-        requires { length buffer.old ≡ bytes_of (model_of self.old) }
-        ensures { OnOk result (printed (obeyed (model_of self.old) (To.Read zone place)) out.old.items ≡ (model_of self.new, out.new.items)) }
+        requires { length buffer.old ≡ bytes_of self.old }
+        ensures { OnOk result (printed (obeyed self.old (To.Read zone place)) out.old.items ≡ (self.new, out.new.items)) }
     {
         let answer = self.drive.read(zone, place, buffer);
         put_read(out, answer, buffer)
     }
 
     fn list(&mut self, out: &mut Vec<u8>) -> Result<(), AllocError>
-        ensures { OnOk result (printed (obeyed (model_of self.old) To.List) out.old.items ≡ (model_of self.new, out.new.items)) }
+        ensures { OnOk result (printed (obeyed self.old To.List) out.old.items ≡ (self.new, out.new.items)) }
     {
         let zones = self.drive.geometry().counts.zones as usize;
         let mut listing = filled(self.heap, zones * 3, 0)?;

@@ -1,5 +1,5 @@
 ghost use Rattle.std.specs.Prelude.{◌≡◌, IfOk, IfSome};
-ghost use Rattle.drill.specs.Playing.{drill_prints, first_understood, set_up, transcript};
+ghost use Rattle.drill.specs.Playing.{drilled, first_understood, set_up, transcript};
 ghost use Rattle.setup.specs.Setup.{setup_checked, setup_taken};
 ghost use Rattle.text.specs.Pieces.{fields};
 ghost use Rattle.text.specs.Replies.{refusal_line};
@@ -56,7 +56,7 @@ fn refused<R: Display + Drop>(heap: Global, refusal: R) -> Result<Vec<u8>, Alloc
 }
 
 impl Player for Drill {
-    ghost prints = { drill_prints };
+    ghost prints = { drilled };
 
     ghost quiet = { Prim.search rules };
 

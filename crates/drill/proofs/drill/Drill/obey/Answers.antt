@@ -12,4 +12,4 @@ returns-in-SetTrip c =
 pub returns-in-Manage : goal.returns-in-Manage
 returns-in-Manage c =
     let e = rw (answer_from_decimal device_number device_small c.manage.result) at c.put_answer-in-Manage.ensures in
-    search rules
+    rw (← c.self-in-Manage.view_is) (search rules)
