@@ -40,6 +40,7 @@ pub(crate) fn put_threes(out: &mut Vec<u8>, bytes: &[u8]) -> Result<(), AllocErr
     Ok(())
 }
 
+// The mark as a word. A `Display` would want a type around the `bool`, and have this `if` in it.
 pub(crate) fn put_mark(out: &mut Vec<u8>, misused: bool) -> Result<(), AllocError>
     ensures { OnOk result (out.new.items ≡ out.old.items ++ mark_line misused) }
 {

@@ -3,8 +3,9 @@ use Rattle.std.specs.Prelude.{◌≡◌, ℕ, zero, suc, ◌+◌, ◌-◌, ◌<�
 use Rattle.std.proofs.Common.{ap, ap₂, ◌∙◌, inl, inr, arith}
 use Rattle.std.proofs.lemmas.List.{append-nil, length-append, length-replicate, map-append, replicate-append-replicate, get_or_append_left, get_or-append_right, get_or-replicate}
 use Rattle.std.proofs.Math.Bool.{and-true}
-use Rattle.std.proofs.Math.Nat.{zero-mul}
-use Rattle.std.proofs.lemmas.List.Sums.{sum_by-append, sum_by-cons}
+use Rattle.std.proofs.Math.Nat.{mul-zero, zero-mul}
+use Rattle.std.proofs.lemmas.List.Folds.{sum_by-replicate}
+use Rattle.std.proofs.lemmas.List.Sums.{sum_by-append}
 use Rattle.std.proofs.lemmas.Bool.{cases_lt, lt-ltb, le-ltb}
 use Rattle.zoned.specs.declared.conditions.ZoneState.{ZoneState}
 use Rattle.zoned.specs.declared.counts.Counts.{Counts}
@@ -32,11 +33,7 @@ new_by_trip c e =
     ∙ replicate-append-replicate c.conventional (c.zones - c.conventional) no_trip ∙ ap (λ n. replicate n no_trip) m
 
 none_open : (n : ℕ) (s : ZoneState) → is_open s.condition ≡ false → open_count (replicate n s) ≡ 0
-none_open zero s e = refl
-none_open (suc n) s e = sum_by-cons opened s (replicate n s) ∙ rw e (omega (arith, none_open n s e))
-  where
-    opened : ZoneState → ℕ
-    opened x = cond (is_open x.condition) 1 0
+none_open n s e = sum_by-replicate (λ (x : ZoneState). cond (is_open x.condition) 1 0) n s ∙ rw e (mul-zero n)
 
 pub fresh_lawful : (c : Counts) → fits c ≡ true → Lawful (new_table c).told
 fresh_lawful c e =

@@ -1,5 +1,6 @@
 -- The zone machine gives what the zone rules say, and the zones of a drive become what they say.
 use Rattle.std.proofs.Common.{◌≡◌, ℕ, ◌+◌, ◌<◌, ◌≤◌, Bool, true, false, cond, not, ◌&&◌, ◌||◌, eqb, leb, List, [], ◌∷◌, length, count_by, vec_items, get_or, map, replicate, set, Some, None, Ok, Err, Option, Result, sym, refl, ap, ◌∙◌, subst, ap₂, arith}
+use Rattle.std.proofs.Math.Bool.{or-false}
 use Rattle.std.proofs.lemmas.Bool.Decides.{nat_tests}
 use Rattle.std.proofs.lemmas.List.{length-replicate, map-set, set-get_or, get_or-map}
 use Rattle.std.proofs.lemmas.List.Sums.{sum_by-cons}
@@ -103,9 +104,6 @@ pub asked_inside : (r : Report) (z : ℕ) (q : Request) (s : ZoneState) → rule
 unfolding turned_away
 asked_inside r z q s h = grind arith
 
-or_false : (b : Bool) → (b || false) ≡ b
-or_false b = grind arith
-
 -- what a command that passes leaves of the zones, of which x is the one that it names
 pub record Taken (n : Counts) (zs : List DriveZone) (m : Bool) (c : Command) (z : ℕ) (after : Result Unit DeviceRefusal × DriveZone) : Type 0 where
   pub lawful : Lawful (tabled n (set zs z after.1) m).told
@@ -119,8 +117,8 @@ module _ (n : Counts) (zs : List DriveZone) (m : Bool) (c : Command) (s : ZoneSt
   told = (tabled n zs m).told
 
   left : (f : Option Bad) → ◌≡◌ {A = Result (Unit {0}) DeviceRefusal × Table} (answer (judged None f), table_with (tabled n zs m) c (judged None f)) ((zone_passed x (operation_of c) s f).0, tabled n (set zs (zone_of c) (zone_passed x (operation_of c) s f).1) m)
-  left (Some b) = rw (there, tripped, or_false m, map-set state_of, map-set trip_on) refl
-  left None = rw (there, tripped, or_false m, map-set state_of, map-set trip_on, k) refl
+  left (Some b) = rw (there, tripped, or-false m, map-set state_of, map-set trip_on) refl
+  left None = rw (there, tripped, or-false m, map-set state_of, map-set trip_on, k) refl
 
   lawful_left : (f : Option Bad) → Lawful (report_after told c (judged None f)) → Lawful (tabled n (set zs (zone_of c) (zone_passed x (operation_of c) s f).1) m).told
   lawful_left (Some b) h = rw map-set (rw there at h)

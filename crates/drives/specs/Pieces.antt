@@ -1,7 +1,7 @@
 -- An area cut into pieces: which piece stands where, and what a write to one changes.
 use Rattle.std.specs.Prelude.{◌≡◌, ℕ, zero, suc, ◌+◌, ◌-◌, ◌*◌, ◌<◌, ◌≤◌, List, [], ◌∷◌, length, get_or, take, drop, slice_index_or, slice_set, refl}
 use Rattle.std.proofs.Common.{sym, ap, ap₂, subst, ◌∙◌, suc-mul, zero-mul, mul_comm, mul-le-mul_right, arith, rules}
-use Rattle.std.proofs.Math.Seq.{paste}
+use Rattle.std.proofs.Math.Seq.{paste, take-set-lt}
 use Rattle.std.proofs.lemmas.Nat.{mul-add-lt}
 use Rattle.std.proofs.lemmas.List.{places, same_lists, length-take, length-drop, drop-drop, take-set-le, drop-set-lt, drop-set-add, get_or-take, get_or-drop}
 use Rattle.zoned.specs.Rules.{block_at, with_block}
@@ -17,12 +17,6 @@ pub piece_within : (k n i : ℕ) → i < k → i * n + n ≤ k * n
 piece_within k n i h = let e = mul-le-mul_right n h in omega (arith, suc-mul i n)
 
 -- ---- pieces of any list
-
-take-set-lt : {A : Type 0} (n : ℕ) (xs : List A) (j : ℕ) (v : A) → j < n → take n (slice_set xs j v) ≡ slice_set (take n xs) j v
-take-set-lt zero xs j v h = absurd (omega arith)
-take-set-lt (suc n) [] j v h = refl
-take-set-lt (suc n) (x ∷ xs) zero v h = refl
-take-set-lt (suc n) (x ∷ xs) (suc j) v h = ap (λ ys. x ∷ ys) (take-set-lt n xs j v (omega arith))
 
 module _ {A : Type 0} (n : ℕ) where
   pub length-pieces : (k : ℕ) (xs : List A) → length (pieces k n xs) ≡ k

@@ -16,6 +16,7 @@ use zoned::conditions::{Condition, ZoneState};
 use zoned::numbers::Zone;
 use zoned::refusals::{DeviceRefusal, InputRefusal};
 
+// The zone stays beside the request, since much of what is asked of a request is the same for every zone.
 impl ZoneTable {
     // What a command does to the zones; all refusals but a bad zone's raise the misuse mark.
     pub(crate) fn take(&mut self, zone: Zone, request: Request) -> Result<(), DeviceRefusal>
@@ -89,13 +90,13 @@ impl ZoneTable {
     pub(crate) fn zone(&self, zone: Zone) -> ZoneState
         ensures { result ≡ zone_at (table_of self.now).told zone.0 }
     {
-        if zone.0 >= self.geometry.counts.zones {
-            return ZoneState {
+        match self.zones.get(zone.0 as usize) {
+            Some(zone) => zone.state,
+            None => ZoneState {
                 condition: Condition::Offline,
                 pointer: 0,
-            };
+            },
         }
-        self.zones[zone.0 as usize].state
     }
 
     pub(crate) fn set_trip(&mut self, zone: Zone, trip: Trip) -> Result<(), InputRefusal>

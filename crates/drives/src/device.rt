@@ -31,7 +31,8 @@ impl Reporter for Drive {
     }
 }
 
-// Besides what every device promises, each command says what it leaves of the zones with their trips, and of the blocks.
+// Besides what every device promises, each command says what it leaves of the zones with their trips, and of the blocks. That a call keeps
+// the blocks is said by each that does, as it is no fact of a value.
 impl ZonedDevice for Drive {
     ghost state = { drive_state };
 
@@ -84,7 +85,7 @@ impl Drive {
         self.zones.set_trip(zone, trip)
     }
 
-    // Writes a block, in the area where its zone lies.
+    // Writes a block, in the area where its zone lies. The reading below is alike, but for one the area changes and for the other it does not.
     fn put(&mut self, zone: Zone, place: Place, block: &[u8])
         requires { HasBlock self.old.zones.geometry.counts.zones self.old.zones.geometry.counts zone.0 place.0 (length block.now) }
         ensures blocks { drive_store self.new ≡ with_block (drive_store self.old) zone.0 place.0 block.now }

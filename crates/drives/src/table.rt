@@ -6,6 +6,7 @@ use crate::zones::DriveZone;
 use zoned::geometry::Geometry;
 
 // All of a drive but its bytes: each zone with its trip, and the misuse mark.
+// It has no `impl Model`: contracts would see it without its facts, and a drive has to keep the laws of its traits by them.
 #[derive(Drop)]
 pub struct ZoneTable {
     pub(crate) geometry: Geometry,

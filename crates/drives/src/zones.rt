@@ -27,12 +27,12 @@ impl DriveZone {
         let DriveZone { state, trip } = self;
         let worn = Trip {
             count: trip.count.saturating_sub(1),
-            into: trip.into,
+            ..trip
         };
         if trip.count == 1 {
             let broken = ZoneState {
                 condition: after_fault(request, trip.into),
-                pointer: state.pointer,
+                ..state
             };
             return (
                 Err(DeviceRefusal::Fault),

@@ -61,7 +61,7 @@ impl<'a> Fields<'a> {
         T::from_field(field)
     }
 
-    // `Some` where no field is left.
+    // `Some` where no field is left: no `bool`, so that `?` can follow.
     pub fn end(&self) -> Option<()>
         ensures { result ≡ none_left self.now }
     {

@@ -12,6 +12,7 @@ pub enum Action {
 }
 
 // What a command does, whichever zone, place and bytes it names.
+// The actions stand among the other two, and not in a case of their own: the tables of the rules have a column for each of the six.
 #[derive(Clone, Copy, PartialEq, Eq, Debug)]
 pub enum Operation {
     Open,

@@ -22,6 +22,7 @@ pub enum Bad {
 }
 
 // What a reporter tells of a zone: its condition, and the place that its next write takes.
+// The pointer is no value inside the condition: it is told of every zone, whatever its condition.
 #[derive(Clone, Copy, PartialEq, Eq, Debug)]
 pub struct ZoneState {
     pub condition: Condition,

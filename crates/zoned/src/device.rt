@@ -16,7 +16,7 @@ pub trait Reporter {
     fn geometry(&self) -> Geometry
         ensures { result.counts ≡ (report self.now).counts };
 
-    // Of a zone that the drive has not: offline, pointer 0.
+    // Of a zone that the drive has not: offline, pointer 0, and no `Option`, since to every reader such a zone is a bad one.
     fn zone(&self, zone: Zone) -> ZoneState
         ensures { result ≡ zone_at (report self.now) zone.0 };
 
@@ -24,6 +24,7 @@ pub trait Reporter {
 }
 
 // A reporter that also takes commands.
+// Zone and place stay two parameters: a struct of both would be made at each call, only to be taken apart in it.
 pub trait ZonedDevice: Reporter {
     ghost state: { Self → State };
 

@@ -41,7 +41,7 @@ impl Counts {
 }
 
 impl Geometry {
-    // The geometry of these counts, or that of no zone where they are outside the limits.
+    // The geometry of these counts, or that of no zone where they are outside the limits: no `Option`, so that all above has one case less.
     pub fn new(counts: Counts) -> Geometry
         ensures { result.counts ≡ kept counts }
     {

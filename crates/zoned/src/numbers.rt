@@ -1,4 +1,5 @@
-// The four numbers that count different things. Each has a type of its own, so that none is passed where another is due.
+// The four numbers that count different things. Each has a type of its own, so that none is passed where another is due. One generic type
+// with a mark would keep them apart as well, and have two names at each use.
 
 // A zone of a drive, from 0.
 #[derive(Clone, Copy, PartialEq, Eq, Debug)]
