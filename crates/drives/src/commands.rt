@@ -103,10 +103,10 @@ impl ZoneTable {
         ensures outcome { trip_set (table_of self.old) zone.0 trip ≡ (result, table_of self.new) }
         ensures geometry { self.new.geometry ≡ self.old.geometry }
     {
-        if zone.0 >= self.geometry.counts.zones {
+        let Some(found) = self.zones.get_mut(zone.0 as usize) else {
             return Err(InputRefusal::Zone);
-        }
-        self.zones[zone.0 as usize].trip = trip;
+        };
+        found.trip = trip;
         Ok(())
     }
 }

@@ -25,30 +25,17 @@ impl DriveZone {
         ensures { result ≡ zone_passed self (operation request) next (due self.trip) }
     {
         let DriveZone { state, trip } = self;
-        let worn = Trip {
+        let (answer, state) = if trip.count == 1 {
+            let condition = after_fault(request, trip.into);
+            (Err(DeviceRefusal::Fault), ZoneState { condition, ..state })
+        } else {
+            (Ok(()), next)
+        };
+        let trip = Trip {
             count: trip.count.saturating_sub(1),
             ..trip
         };
-        if trip.count == 1 {
-            let broken = ZoneState {
-                condition: after_fault(request, trip.into),
-                ..state
-            };
-            return (
-                Err(DeviceRefusal::Fault),
-                DriveZone {
-                    state: broken,
-                    trip: worn,
-                },
-            );
-        }
-        (
-            Ok(()),
-            DriveZone {
-                state: next,
-                trip: worn,
-            },
-        )
+        (answer, DriveZone { state, trip })
     }
 }
 
