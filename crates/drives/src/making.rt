@@ -34,6 +34,8 @@ impl Drive {
         check_areas(counts, counts.conventional, conventional, sequential)
     }
 
+    // Heap and counts stay two parameters: the one is the process's, and the other is told of a drive.
+
     // A new magnetic drive over this area: plain and empty zones, no trip, the mark down. With what the check refuses, a drive with no zones.
     pub fn magnetic(heap: Global, counts: Counts, area: Vec<u8>) -> Result<Drive, AllocError>
         ensures zones { IfOk result (λ d. drive_table d ≡ new_table (taken counts (magnetic_fits counts area.items))) }
