@@ -4,6 +4,7 @@ ghost use Rattle.drives.specs.Requests.{operation, place};
 ghost use Rattle.zoned.specs.Limits.{is_conventional};
 
 use zoned::commands::Action;
+use zoned::conditions::Condition::{Closed, Empty, Full, Offline, Open, Plain, ReadOnly};
 use zoned::conditions::{Condition, ZoneState};
 use zoned::geometry::Geometry;
 use zoned::numbers::{Place, Zone};
@@ -32,39 +33,24 @@ pub(crate) fn next_state(
     let ZoneState { condition, pointer } = state;
     let blocks = geometry.counts.blocks;
     match (condition, request) {
-        (Condition::Offline, _) => Err(DeviceRefusal::Fault),
+        (Offline, _) => Err(DeviceRefusal::Fault),
         (_, Request::Read { place, .. }) if geometry.is_conventional(zone) || place.0 < pointer =>
             Ok(state),
         (_, Request::Read { .. }) => Err(DeviceRefusal::Unwritten),
-        (Condition::ReadOnly, _) => Err(DeviceRefusal::Fault),
-        (Condition::Plain, Request::Write { .. }) => Ok(state),
-        (Condition::Open, Request::Manage(Action::Open)) => Ok(state),
-        (Condition::Empty | Condition::Closed, Request::Manage(Action::Open)) if crowded => Err(
-            DeviceRefusal::OpenLimit,
-        ),
-        (Condition::Empty | Condition::Closed, Request::Manage(Action::Open)) => at(
-            Condition::Open,
-            pointer,
-        ),
-        (Condition::Open, Request::Manage(Action::Close)) if pointer == 0 => at(
-            Condition::Empty,
-            pointer,
-        ),
-        (Condition::Open, Request::Manage(Action::Close)) => at(Condition::Closed, pointer),
-        (Condition::Empty | Condition::Open | Condition::Closed, Request::Manage(Action::Finish)) =>
-            at(Condition::Full, blocks),
-        (
-            Condition::Empty | Condition::Open | Condition::Closed | Condition::Full,
-            Request::Manage(Action::Reset),
-        ) => at(Condition::Empty, 0),
-        (Condition::Open, Request::Write { place, .. }) if place.0 != pointer => Err(
+        (ReadOnly, _) => Err(DeviceRefusal::Fault),
+        (Plain, Request::Write { .. }) => Ok(state),
+        (Open, Request::Manage(Action::Open)) => Ok(state),
+        (Empty | Closed, Request::Manage(Action::Open)) if crowded => Err(DeviceRefusal::OpenLimit),
+        (Empty | Closed, Request::Manage(Action::Open)) => at(Open, pointer),
+        (Open, Request::Manage(Action::Close)) if pointer == 0 => at(Empty, pointer),
+        (Open, Request::Manage(Action::Close)) => at(Closed, pointer),
+        (Empty | Open | Closed, Request::Manage(Action::Finish)) => at(Full, blocks),
+        (Empty | Open | Closed | Full, Request::Manage(Action::Reset)) => at(Empty, 0),
+        (Open, Request::Write { place, .. }) if place.0 != pointer => Err(
             DeviceRefusal::OffPointer,
         ),
-        (Condition::Open, Request::Write { .. }) if pointer + 1 == blocks => at(
-            Condition::Full,
-            blocks,
-        ),
-        (Condition::Open, Request::Write { .. }) => at(Condition::Open, pointer + 1),
+        (Open, Request::Write { .. }) if pointer + 1 == blocks => at(Full, blocks),
+        (Open, Request::Write { .. }) => at(Open, pointer + 1),
         _ => Err(DeviceRefusal::WrongCondition),
     }
 }
