@@ -9,6 +9,7 @@ use Rattle.zoned.specs.Limits.{within, none, bytes_of}
 use Rattle.zoned.specs.Report.{Report}
 use Rattle.zoned.specs.Rules.{Blocks, State}
 use Rattle.drives.specs.declared.drive.Drive.{Drive}
+use Rattle.drives.specs.declared.kind.DriveKind.{DriveKind}
 use Rattle.drives.specs.declared.trips.Trip.{Trip}
 use Rattle.drives.specs.Areas.{blocks_in, area_blocks}
 use Rattle.drives.specs.Table.{Table, table_of, plan_of}
@@ -18,6 +19,9 @@ use Rattle.drives.specs.Zones.{no_trip}
 -- a drive whose zones are t and whose blocks are bs
 abbrev pub drive : Table → Blocks → State
 drive t bs = record { meaning = record { told = t.told; blocks = bs; misused = t.misused }; plan = plan_of t }
+
+abbrev pub drive_kind : Drive → DriveKind
+drive_kind d = d.kind
 
 abbrev pub drive_table : Drive → Table
 drive_table d = table_of d.zones
@@ -74,7 +78,7 @@ taken c fit = cond (within c && fit) c none
 abbrev pub held : Counts → Bool → Blocks → Blocks
 held c fit bs = cond (within c && fit) bs []
 
--- two areas, of which the first has k zones
+-- two areas, of which the first has k zones and the second the others
 abbrev pub split_blocks : Counts → ℕ → List ℕ → List ℕ → Blocks
 split_blocks c k first rest = blocks_in k c.blocks c.bytes first ++ blocks_in (c.zones - k) c.blocks c.bytes rest
 

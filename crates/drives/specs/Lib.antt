@@ -1,5 +1,6 @@
 pub mod Areas
 pub mod Drives
+pub mod Kinds
 pub mod Machine
 pub mod Requests
 pub mod Table

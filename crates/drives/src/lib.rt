@@ -7,6 +7,7 @@ pub mod blocks;
 pub mod commands;
 pub mod device;
 pub mod drive;
+pub mod kind;
 pub mod machine;
 pub mod making;
 pub mod table;

@@ -1,11 +1,14 @@
-ghost use Rattle.std.specs.Prelude.{◌≡◌, ◌-◌, ◌≤◌, true, IfOk, vec_len};
-ghost use Rattle.drives.specs.Drives.{areas_checked, drive_store, drive_table, held, new_table, new_zones, taken, untripped};
+ghost use Rattle.std.specs.Prelude.{◌≡◌, ◌-◌, IfOk, vec_len};
+ghost use Rattle.drives.specs.declared.kind.DriveKind.TheVariants.{Flash, Magnetic};
+ghost use Rattle.drives.specs.Drives.{areas_checked, drive_kind, drive_store, drive_table, held, new_table, new_zones, taken, untripped};
 ghost use Rattle.drives.specs.Drives.{flash_blocks, flash_fits, magnetic_blocks, magnetic_fits, split_blocks, split_fits};
+ghost use Rattle.drives.specs.Kinds.{first_zones};
 ghost use Rattle.drives.specs.Table.{table_of};
-ghost use Rattle.zoned.specs.Limits.{bytes_of, within};
+ghost use Rattle.zoned.specs.Limits.{bytes_of};
 
 use crate::area::Area;
 use crate::drive::Drive;
+use crate::kind::DriveKind;
 use crate::table::ZoneTable;
 use crate::trips::Trip;
 use crate::zones::DriveZone;
@@ -16,14 +19,34 @@ use zoned::geometry::Geometry;
 use zoned::refusals::InputRefusal;
 
 impl Drive {
-    // Turns away counts outside the limits, and then an area of another length than all zones have.
+    // Turns away counts outside the limits, and then areas of another length than their zones have. The second area of a magnetic drive is
+    // that of no zone.
+    pub fn check(
+        kind: DriveKind,
+        counts: Counts,
+        first: &[u8],
+        rest: &[u8],
+    ) -> Result<(), InputRefusal>
+        ensures { result ≡ areas_checked counts (split_fits counts (first_zones kind counts) first.now rest.now) }
+    {
+        counts.check()?;
+        let geometry = Geometry::new(counts);
+        let zones = kind.first_zones(counts);
+        if first.len() == geometry.bytes_of(zones)
+            && rest.len() == geometry.bytes_of(counts.zones.saturating_sub(zones))
+        {
+            Ok(())
+        } else {
+            Err(InputRefusal::Length)
+        }
+    }
+
     pub fn check_magnetic(counts: Counts, area: &[u8]) -> Result<(), InputRefusal>
         ensures { result ≡ areas_checked counts (magnetic_fits counts area.now) }
     {
-        check_areas(counts, counts.zones, area, &[])
+        Drive::check(DriveKind::Magnetic, counts, area, &[])
     }
 
-    // Turns away counts outside the limits, and then areas of another length than the zones of their sort have.
     pub fn check_flash(
         counts: Counts,
         conventional: &[u8],
@@ -31,65 +54,66 @@ impl Drive {
     ) -> Result<(), InputRefusal>
         ensures { result ≡ areas_checked counts (flash_fits counts conventional.now sequential.now) }
     {
-        check_areas(counts, counts.conventional, conventional, sequential)
+        Drive::check(DriveKind::Flash, counts, conventional, sequential)
     }
 
+    // A new drive over these areas: plain and empty zones, no trip, the mark down. With what the check refuses, a drive with no zones.
     // Heap and counts stay two parameters: the one is the process's, and the other is told of a drive.
+    pub fn new(
+        heap: Global,
+        kind: DriveKind,
+        counts: Counts,
+        first: Vec<u8>,
+        rest: Vec<u8>,
+    ) -> Result<Drive, AllocError>
+        ensures kind { IfOk result (λ d. drive_kind d ≡ kind) }
+        ensures zones { IfOk result (λ d. drive_table d ≡ new_table (taken counts (split_fits counts (first_zones kind counts) first.items rest.items))) }
+        ensures blocks { IfOk result (λ d. drive_store d ≡ held counts (split_fits counts (first_zones kind counts) first.items rest.items) (split_blocks counts (first_zones kind counts) first.items rest.items)) }
+    {
+        match Drive::check(kind, counts, &first, &rest) {
+            Ok(()) => Drive::over(heap, kind, Geometry::new(counts), first, rest),
+            Err(_) => Drive::over(heap, kind, Geometry::none(), Vec::new(heap), Vec::new(heap)),
+        }
+    }
 
-    // A new magnetic drive over this area: plain and empty zones, no trip, the mark down. With what the check refuses, a drive with no zones.
     pub fn magnetic(heap: Global, counts: Counts, area: Vec<u8>) -> Result<Drive, AllocError>
+        ensures kind { IfOk result (λ d. drive_kind d ≡ Magnetic) }
         ensures zones { IfOk result (λ d. drive_table d ≡ new_table (taken counts (magnetic_fits counts area.items))) }
         ensures blocks { IfOk result (λ d. drive_store d ≡ held counts (magnetic_fits counts area.items) (magnetic_blocks counts area.items)) }
     {
-        Drive::new(heap, counts, counts.zones, area, Vec::new(heap))
+        Drive::new(heap, DriveKind::Magnetic, counts, area, Vec::new(heap))
     }
 
-    // A new flash drive over these areas, in the same way.
     pub fn flash(
         heap: Global,
         counts: Counts,
         conventional: Vec<u8>,
         sequential: Vec<u8>,
     ) -> Result<Drive, AllocError>
+        ensures kind { IfOk result (λ d. drive_kind d ≡ Flash) }
         ensures zones { IfOk result (λ d. drive_table d ≡ new_table (taken counts (flash_fits counts conventional.items sequential.items))) }
         ensures blocks { IfOk result (λ d. drive_store d ≡ held counts (flash_fits counts conventional.items sequential.items) (flash_blocks counts conventional.items sequential.items)) }
     {
-        Drive::new(heap, counts, counts.conventional, conventional, sequential)
-    }
-
-    // A new drive over two areas, of which the first has so many zones.
-    fn new(
-        heap: Global,
-        counts: Counts,
-        zones: u32,
-        first: Vec<u8>,
-        rest: Vec<u8>,
-    ) -> Result<Drive, AllocError>
-        requires { within counts ≡ true → zones ≤ counts.zones }
-        ensures zones { IfOk result (λ d. drive_table d ≡ new_table (taken counts (split_fits counts zones first.items rest.items))) }
-        ensures blocks { IfOk result (λ d. drive_store d ≡ held counts (split_fits counts zones first.items rest.items) (split_blocks counts zones first.items rest.items)) }
-    {
-        match check_areas(counts, zones, &first, &rest) {
-            Ok(()) => Drive::over(heap, Geometry::new(counts), zones, first, rest),
-            Err(_) => Drive::over(heap, Geometry::none(), 0, Vec::new(heap), Vec::new(heap)),
-        }
+        Drive::new(heap, DriveKind::Flash, counts, conventional, sequential)
     }
 
     fn over(
         heap: Global,
+        kind: DriveKind,
         geometry: Geometry,
-        zones: u32,
         first: Vec<u8>,
         rest: Vec<u8>,
     ) -> Result<Drive, AllocError>
-        requires zones { zones ≤ geometry.counts.zones }
-        requires first { vec_len first ≡ bytes_of geometry.counts zones }
-        requires rest { vec_len rest ≡ bytes_of geometry.counts (geometry.counts.zones - zones) }
+        requires first { vec_len first ≡ bytes_of geometry.counts (first_zones kind geometry.counts) }
+        requires rest { vec_len rest ≡ bytes_of geometry.counts (geometry.counts.zones - first_zones kind geometry.counts) }
+        ensures kind { IfOk result (λ d. drive_kind d ≡ kind) }
         ensures zones { IfOk result (λ d. drive_table d ≡ new_table geometry.counts) }
-        ensures blocks { IfOk result (λ d. drive_store d ≡ split_blocks geometry.counts zones first.items rest.items) }
+        ensures blocks { IfOk result (λ d. drive_store d ≡ split_blocks geometry.counts (first_zones kind geometry.counts) first.items rest.items) }
     {
         let table = ZoneTable::new(heap, geometry)?;
+        let zones = kind.first_zones(geometry.counts);
         Ok(Drive {
+            kind,
             zones: table,
             first: Area {
                 geometry,
@@ -98,25 +122,10 @@ impl Drive {
             },
             rest: Area {
                 geometry,
-                zones: geometry.counts.zones - zones,
+                zones: geometry.counts.zones.saturating_sub(zones),
                 cells: rest,
             },
         })
-    }
-}
-
-// Turns away counts outside the limits, and then areas of another length than their zones have, of which the first has so many.
-fn check_areas(counts: Counts, zones: u32, first: &[u8], rest: &[u8]) -> Result<(), InputRefusal>
-    ensures { result ≡ areas_checked counts (split_fits counts zones first.now rest.now) }
-{
-    counts.check()?;
-    let geometry = Geometry::new(counts);
-    if first.len() == geometry.bytes_of(zones)
-        && rest.len() == geometry.bytes_of(counts.zones.saturating_sub(zones))
-    {
-        Ok(())
-    } else {
-        Err(InputRefusal::Length)
     }
 }
 

@@ -1,5 +1,6 @@
 -- The first line of a script.
 use Rattle.std.specs.Prelude.{ℕ, Bool, cond, ◌&&◌, List, length, replicate, Some, None, Ok, Err, Option, Result, ◌==◌, nat_le, slice_index}
+use Rattle.std.specs.Option.{option_map}
 use Rattle.text.specs.Decimal.{decimal}
 use Rattle.text.specs.Fields.{taken}
 use Rattle.zoned.specs.declared.counts.Counts.{Counts}
@@ -7,8 +8,9 @@ use Rattle.zoned.specs.declared.refusals.InputRefusal.{InputRefusal}
 use Rattle.zoned.specs.declared.refusals.InputRefusal.TheVariants as Input
 use Rattle.zoned.specs.Limits.{within, bytes_of}
 use Rattle.zoned.specs.Rules.{Blocks}
-use Rattle.setup.specs.declared.line.DriveKind.{DriveKind}
-use Rattle.setup.specs.declared.line.DriveKind.TheVariants.{Magnetic, Flash}
+use Rattle.drives.specs.declared.kind.DriveKind.{DriveKind}
+use Rattle.drives.specs.declared.kind.DriveKind.TheVariants.{Magnetic, Flash}
+use Rattle.setup.specs.declared.line.KindWord.{KindWord}
 use Rattle.setup.specs.declared.line.Setup.{Setup}
 
 -- a field of these three bytes
@@ -19,6 +21,9 @@ is_word a b c w = length w == 3 && (slice_index w 0 == a && (slice_index w 1 == 
 abbrev pub kind_of : List ℕ → Option DriveKind
 kind_of w = cond (is_word 115 109 114 w) (Some Magnetic) (cond (is_word 122 110 115 w) (Some Flash) None)
 
+abbrev pub kind_word : List ℕ → Option KindWord
+kind_word w = option_map (λ k. record { 0 = k }) (kind_of w)
+
 -- reading on, where a field was understood
 abbrev pub reading_on : {A B : Type 0} → Option A × List (List ℕ) → (A → List (List ℕ) → Option B × List (List ℕ)) → Option B × List (List ℕ)
 reading_on (None, ws) f = (None, ws)
@@ -27,14 +32,14 @@ reading_on (Some a, ws) f = f a ws
 -- seven fields: the kind; zones, conventional zones, blocks, bytes, open limit and reserve
 abbrev pub setup_taken : List (List ℕ) → Option Setup × List (List ℕ)
 setup_taken ws =
-    reading_on (taken kind_of ws) (λ kind ws.
+    reading_on (taken kind_word ws) (λ word ws.
     reading_on (taken decimal ws) (λ zones ws.
     reading_on (taken decimal ws) (λ conventional ws.
     reading_on (taken decimal ws) (λ blocks ws.
     reading_on (taken decimal ws) (λ bytes ws.
     reading_on (taken decimal ws) (λ open_limit ws.
     reading_on (taken decimal ws) (λ reserve ws.
-    (Some (record { kind = kind; counts = record { zones = zones; conventional = conventional; blocks = blocks; bytes = bytes; open_limit = open_limit; reserve = reserve } }), ws))))))))
+    (Some (record { kind = word.0; counts = record { zones = zones; conventional = conventional; blocks = blocks; bytes = bytes; open_limit = open_limit; reserve = reserve } }), ws))))))))
 
 -- all bytes of the blocks
 abbrev pub all_bytes : Counts → ℕ

@@ -1,17 +1,11 @@
 ghost use Rattle.std.specs.Prelude.{◌≡◌};
-ghost use Rattle.setup.specs.Setup.{kind_of, setup_checked, setup_taken};
+ghost use Rattle.setup.specs.Setup.{kind_word, setup_checked, setup_taken};
 
+use drives::kind::DriveKind;
 use text::fields::{Fields, FromField};
 use zoned::counts::Counts;
 use zoned::geometry::Geometry;
 use zoned::refusals::InputRefusal;
-
-// Which of the two drives.
-#[derive(Clone, Copy)]
-pub enum DriveKind {
-    Magnetic,
-    Flash,
-}
 
 // What the first line of a script asks for.
 #[derive(Clone, Copy)]
@@ -23,24 +17,13 @@ pub struct Setup {
 // The bytes of all blocks of a script's drive are at most so many.
 pub const MOST_BYTES: usize = 65536;
 
-impl FromField for DriveKind {
-    ghost reads = { kind_of };
-
-    fn from_field(field: &[u8]) -> Option<DriveKind> {
-        match field {
-            b"smr" => Some(DriveKind::Magnetic),
-            b"zns" => Some(DriveKind::Flash),
-            _ => None,
-        }
-    }
-}
-
 // Takes the seven fields of a setup: `smr` or `zns`, then zones, conventional zones, blocks, bytes, open limit and reserve.
 pub fn read_setup(line: &mut Fields) -> Option<Setup>
     ensures { setup_taken line.old ≡ (result, line.new) }
 {
+    let KindWord(kind) = line.take()?;
     Some(Setup {
-        kind: line.take()?,
+        kind,
         counts: Counts {
             zones: line.take()?,
             conventional: line.take()?,
@@ -62,5 +45,20 @@ impl Setup {
             return Err(InputRefusal::Geometry);
         }
         Ok(())
+    }
+}
+
+// The word of a script for a kind of drive.
+struct KindWord(DriveKind);
+
+impl FromField for KindWord {
+    ghost reads = { kind_word };
+
+    fn from_field(field: &[u8]) -> Option<KindWord> {
+        match field {
+            b"smr" => Some(KindWord(DriveKind::Magnetic)),
+            b"zns" => Some(KindWord(DriveKind::Flash)),
+            _ => None,
+        }
     }
 }

@@ -7,15 +7,24 @@ use std::alloc::AllocError;
 use std::fmt;
 use std::fmt::Display;
 
-// Why a line is turned away: it is not understood. It is printed as its number.
+// Why a line is turned away: it is not understood.
 #[derive(Clone, Copy, PartialEq, Eq, Debug)]
 pub struct NotUnderstood;
 
+impl From<NotUnderstood> for u8 {
+    ghost from_gives = { λ _ number. number ≡ 7 };
+
+    fn from(_refusal: NotUnderstood) -> u8 {
+        7
+    }
+}
+
+// It is printed as its number.
 impl Display for NotUnderstood {
     ghost output = { λ _. Some (digits 7) };
 
     fn fmt<W: fmt::Write>(&self, f: &mut fmt::Formatter<W>) -> fmt::Result {
-        f.write_str("7")
+        u8::from(*self).fmt(f)
     }
 }
 

@@ -10,8 +10,3 @@ loop-three-preserved c =
     let more = three_more (vec_items c.loop-three.out) c.loop-three.three-iterator.rest.now c.in-Some.three.now rest s.1.0 (s.1.1 ∙ c.loop-three.invariant.0) in
     (s.0 ∙ c.loop-three.invariant.0, c.loop-three.invariant.1 ∙ more ∙ ap (λ out. out ++ in_threes rest) (sym c.in_ok-put_bytes.ensures))
 
-pub returns : goal.returns
-returns c =
-    let left = c.loop-three.three-iterator.rest.now in
-    let h : length left < 3 = omega (arith, c.in-None.ensures.steps.1.0, c.loop-three.invariant.0) in
-    sym (c.loop-three.invariant.1 ∙ threes_done (vec_items c.loop-three.out) left h)

@@ -1,7 +1,7 @@
-use Rattle.std.proofs.Common.{rules}
-use Rattle.text.specs.Decimal.{digits}
+use Rattle.std.proofs.Common.{ap, ◌∙◌, sym, arith}
+use Rattle.std.specs.Fmt.{decimal}
+use Rattle.text.proofs.Figures.{digits_written}
 use Rattle.text.proofs.replies.NotUnderstoodDisplay.fmt.Goals as goal
 
 pub returns-clause-writes : goal.returns-clause-writes
-unfolding digits
-returns-clause-writes g c = search rules
+returns-clause-writes g c = rw (digits_written 7 (omega arith), ← c.from.ensures) c.fmt.ensures.writes
