@@ -1,5 +1,5 @@
 -- The numbers of refusals are small.
-use Rattle.std.proofs.Common.{ℕ, ◌^◌, ◌<◌, arith}
+use Rattle.std.proofs.Common.{◌^◌, ◌<◌, arith}
 use Rattle.zoned.specs.Codes.{device_number, input_number}
 use Rattle.zoned.specs.declared.refusals.DeviceRefusal.{DeviceRefusal}
 use Rattle.zoned.specs.declared.refusals.InputRefusal.{InputRefusal}

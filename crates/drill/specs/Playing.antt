@@ -1,7 +1,7 @@
 -- What a drill prints.
 use Rattle.std.specs.Prelude.{ℕ, Bool, true, false, cond, List, [], ◌∷◌, ◌++◌, replicate, Some, None, Ok, Err, Option, Result}
 use Rattle.drives.specs.Drives.{new_table, trip_set}
-use Rattle.drives.specs.Table.{Table, table_after, table_verdict}
+use Rattle.drives.specs.Table.{table_after, table_verdict}
 use Rattle.setup.specs.declared.line.Setup.{Setup}
 use Rattle.setup.specs.Setup.{setup_checked, setup_taken, zero_blocks}
 use Rattle.text.specs.Fields.{at_end}
@@ -14,7 +14,7 @@ use Rattle.zoned.specs.Codes.{device_number, input_number}
 use Rattle.zoned.specs.Commands.{Command, manage, read, write}
 use Rattle.zoned.specs.Limits.{kept}
 use Rattle.zoned.specs.Listing.{listing}
-use Rattle.zoned.specs.Rules.{Blocks, Verdict, answer, block_at, blocks_after}
+use Rattle.zoned.specs.Rules.{Verdict, answer, block_at, blocks_after}
 use Rattle.drill.specs.declared.instruction.Instruction.{Instruction}
 use Rattle.drill.specs.declared.instruction.Instruction.TheVariants as To
 use Rattle.drill.specs.Drilled.{Drilled}

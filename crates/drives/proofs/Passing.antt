@@ -1,5 +1,5 @@
 -- The zone machine gives what the zone rules say, and the zones of a drive become what they say.
-use Rattle.std.proofs.Common.{◌≡◌, ℕ, ◌+◌, ◌<◌, ◌≤◌, Bool, true, false, cond, not, ◌&&◌, ◌||◌, eqb, leb, List, [], ◌∷◌, length, count_by, vec_items, get_or, map, replicate, set, Some, None, Ok, Err, Option, Result, sym, refl, ap, ◌∙◌, subst, ap₂, arith}
+use Rattle.std.proofs.Common.{◌≡◌, ℕ, ◌+◌, ◌<◌, ◌≤◌, Bool, true, false, cond, not, ◌&&◌, ◌||◌, eqb, leb, List, [], ◌∷◌, length, count_by, vec_items, get_or, map, replicate, set, Some, None, Ok, Err, Option, Result, sym, refl, ap, ◌∙◌, arith}
 use Rattle.std.proofs.Math.Bool.{or-false}
 use Rattle.std.proofs.lemmas.Bool.Decides.{nat_tests}
 use Rattle.std.proofs.lemmas.List.{length-replicate, map-set, set-get_or, get_or-map}
@@ -13,10 +13,10 @@ use Rattle.zoned.specs.declared.conditions.ZoneState.{ZoneState}
 use Rattle.zoned.specs.declared.counts.Counts.{Counts}
 use Rattle.zoned.specs.declared.refusals.DeviceRefusal.{DeviceRefusal}
 use Rattle.zoned.specs.declared.refusals.DeviceRefusal.TheVariants.{OutOfRange, OffPointer, WrongCondition, OpenLimit, Unwritten, Fault}
-use Rattle.zoned.specs.Commands.{Command, write, read, zone_of, operation_of}
+use Rattle.zoned.specs.Commands.{Command, write, zone_of, operation_of}
 use Rattle.zoned.specs.Limits.{is_conventional}
 use Rattle.zoned.specs.Report.{Report, Lawful, zone_at, no_zone, possible, open_count}
-use Rattle.zoned.specs.Rules.{turned_away, outside, shut, takes, opens, when, moved, with_zone, broken, judged, answer, report_after, turned, misuse}
+use Rattle.zoned.specs.Rules.{turned_away, outside, shut, takes, opens, when, moved, judged, answer, report_after, turned, misuse}
 use Rattle.zoned.specs.Conditions.{is_open}
 use Rattle.zoned.proofs.Bounds.{pointer_within}
 use Rattle.zoned.proofs.Steps.{lawful_after}
@@ -30,7 +30,7 @@ use Rattle.drives.specs.Drives.{with_trip}
 use Rattle.drives.specs.Machine.{machine, next, crowded, is_opening}
 use Rattle.drives.specs.Requests.{asked, operation, place}
 use Rattle.drives.specs.Table.{Table, table_of, tabled, machined, ruled, trip_at, table_with, table_outcome}
-use Rattle.drives.specs.Zones.{no_trip, due, worn, state_of, trip_on, zone_passed}
+use Rattle.drives.specs.Zones.{no_trip, due, state_of, trip_on, zone_passed}
 
 -- ---- the machine is the table of the rules
 

@@ -1,5 +1,5 @@
 -- From the zones of a drive to the whole drive.
-use Rattle.std.proofs.Common.{◌≡◌, ℕ, ◌<◌, false, List, length, Ok, Err, Result, sym, ap, ◌∙◌, arith}
+use Rattle.std.proofs.Common.{◌≡◌, ℕ, false, List, length, Ok, Err, Result, sym, ap, ◌∙◌, arith}
 use Rattle.std.proofs.lemmas.Bool.Decides.{nat_tests}
 use Rattle.zoned.specs.declared.commands.Action.{Action}
 use Rattle.zoned.specs.declared.counts.Counts.{Counts}

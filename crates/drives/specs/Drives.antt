@@ -1,5 +1,5 @@
 -- What a drive means, and what new ones are.
-use Rattle.std.specs.Prelude.{ℕ, ◌-◌, ◌*◌, Bool, false, cond, ◌&&◌, List, [], ◌++◌, length, replicate, Ok, Err, Result, ◌==◌, nat_lt, slice_set}
+use Rattle.std.specs.Prelude.{ℕ, ◌-◌, Bool, false, cond, ◌&&◌, List, [], ◌++◌, length, replicate, Ok, Err, Result, ◌==◌, nat_lt, slice_set}
 use Rattle.zoned.specs.declared.conditions.Condition.TheVariants.{Plain, Empty}
 use Rattle.zoned.specs.declared.conditions.ZoneState.{ZoneState}
 use Rattle.zoned.specs.declared.counts.Counts.{Counts}

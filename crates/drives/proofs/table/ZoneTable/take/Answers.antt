@@ -1,9 +1,4 @@
-use Rattle.std.proofs.Common.{length, vec_items, sym, ◌∙◌, arith}
-use Rattle.drives.specs.Requests.{operation}
-use Rattle.drives.specs.Zones.{due, zone_passed}
-use Rattle.drives.specs.Shapes.{lawful_table}
-use Rattle.drives.specs.Requests.{asked}
-use Rattle.drives.specs.Table.{table_of}
+use Rattle.std.proofs.Common.{sym}
 use Rattle.drives.proofs.Passing.{table_taken, named_zone}
 use Rattle.drives.proofs.table.ZoneTable.take.Goals as goal
 

@@ -1,5 +1,4 @@
-use Rattle.std.proofs.Common.{ap, ◌∙◌, sym, arith}
-use Rattle.std.specs.Fmt.{decimal}
+use Rattle.std.proofs.Common.{arith}
 use Rattle.text.proofs.Figures.{digits_written}
 use Rattle.text.proofs.replies.NotUnderstoodDisplay.fmt.Goals as goal
 
