@@ -1,6 +1,6 @@
 ghost use Rattle.std.specs.Prelude.{◌≡◌, length};
 ghost use Rattle.drives.specs.Areas.{HasBlock};
-ghost use Rattle.drives.specs.Drives.{drive_report, drive_state, drive_store, drive_table, trip_set};
+ghost use Rattle.drives.specs.Drives.{drive_kind, drive_report, drive_state, drive_store, drive_table, trip_set};
 ghost use Rattle.drives.specs.Shapes.{drive_shaped, lawful_table};
 ghost use Rattle.drives.specs.Table.{table_outcome, table_verdict};
 ghost use Rattle.zoned.specs.Commands.{manage as managing, read as reading, write as writing};
@@ -8,6 +8,7 @@ ghost use Rattle.zoned.specs.Rules.{block_at, blocks_after, buffer_after, outcom
 ghost use Rattle.std.proofs.Common.{rules};
 
 use crate::drive::Drive;
+use crate::kind::DriveKind;
 use crate::machine::Request;
 use crate::trips::Trip;
 use zoned::commands::Action;
@@ -32,7 +33,7 @@ impl Reporter for Drive {
 }
 
 // Besides what every device promises, each command says what it leaves of the zones with their trips, and of the blocks. That a call keeps
-// the blocks is said by each that does, as it is no fact of a value.
+// the kind and the blocks is said by each that does, as it is no fact of a value.
 impl ZonedDevice for Drive {
     ghost state = { drive_state };
 
@@ -44,6 +45,7 @@ impl ZonedDevice for Drive {
         ensures outcome { outcome (drive_state self.old) (managing action zone.0) ≡ (result, drive_state self.new) }
         ensures zones { table_outcome (drive_table self.old) (managing action zone.0) ≡ (result, drive_table self.new) }
         ensures store { drive_store self.new ≡ drive_store self.old }
+        ensures kind { drive_kind self.new ≡ drive_kind self.old }
     {
         self.zones.take(zone, Request::Manage(action))
     }
@@ -52,6 +54,7 @@ impl ZonedDevice for Drive {
         ensures outcome { outcome (drive_state self.old) (writing zone.0 place.0 block.now) ≡ (result, drive_state self.new) }
         ensures zones { table_outcome (drive_table self.old) (writing zone.0 place.0 block.now) ≡ (result, drive_table self.new) }
         ensures store { drive_store self.new ≡ blocks_after (drive_store self.old) (writing zone.0 place.0 block.now) (table_verdict (drive_table self.old) (writing zone.0 place.0 block.now)) }
+        ensures kind { drive_kind self.new ≡ drive_kind self.old }
     {
         let bytes = block.len();
         self.zones.take(zone, Request::Write { place, bytes })?;
@@ -64,6 +67,7 @@ impl ZonedDevice for Drive {
         ensures buffer { buffer.new ≡ buffer_after (drive_state self.old) zone.0 place.0 buffer.old }
         ensures zones { table_outcome (drive_table self.old) (reading zone.0 place.0 (length buffer.old)) ≡ (result, drive_table self.new) }
         ensures store { drive_store self.new ≡ drive_store self.old }
+        ensures kind { drive_kind self.new ≡ drive_kind self.old }
     {
         let bytes = buffer.len();
         self.zones.take(zone, Request::Read { place, bytes })?;
@@ -77,10 +81,17 @@ impl ZonedDevice for Drive {
 }
 
 impl Drive {
+    pub fn kind(&self) -> DriveKind
+        ensures { result ≡ drive_kind self.now }
+    {
+        self.kind
+    }
+
     // Gives a zone a trip, in place of the one that it has.
     pub fn set_trip(&mut self, zone: Zone, trip: Trip) -> Result<(), InputRefusal>
         ensures zones { trip_set (drive_table self.old) zone.0 trip ≡ (result, drive_table self.new) }
         ensures store { drive_store self.new ≡ drive_store self.old }
+        ensures kind { drive_kind self.new ≡ drive_kind self.old }
     {
         self.zones.set_trip(zone, trip)
     }
@@ -90,6 +101,7 @@ impl Drive {
         requires { HasBlock self.old.zones.geometry.counts.zones self.old.zones.geometry.counts zone.0 place.0 (length block.now) }
         ensures blocks { drive_store self.new ≡ with_block (drive_store self.old) zone.0 place.0 block.now }
         ensures zones { self.new.zones ≡ self.old.zones }
+        ensures kind { drive_kind self.new ≡ drive_kind self.old }
     {
         let first = self.first.zones;
         if zone.0 < first {
