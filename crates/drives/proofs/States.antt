@@ -37,12 +37,6 @@ kept_blocks t u bs c e h = err_blocks bs c (table_verdict t c) e (ap (λ x. x.0)
 pub stored_blocks : (t u : Table) (bs : Blocks) (c : Command) → table_outcome t c ≡ (Ok tt, u) → blocks_after bs c (table_verdict t c) ≡ stored bs c
 stored_blocks t u bs c h = ap (blocks_after bs c) (ok_verdict (table_verdict t c) (ap (λ x. x.0) h))
 
-read_blocks : (bs : Blocks) (z p n : ℕ) (v : Verdict) → blocks_after bs (read z p n) v ≡ bs
-read_blocks bs z p n v = grind arith
-
-pub read_outcome : (t u : Table) (bs : Blocks) (z p n : ℕ) (r : Result Unit DeviceRefusal) → table_outcome t (read z p n) ≡ (r, u) → outcome (drive t bs) (read z p n) ≡ (r, drive u bs)
-read_outcome t u bs z p n r e = drive_written t u bs bs (read z p n) r e (sym (read_blocks bs z p n (table_verdict t (read z p n))))
-
 managed_blocks : (bs : Blocks) (a : Action) (z : ℕ) (v : Verdict) → blocks_after bs (manage a z) v ≡ bs
 managed_blocks bs a z v = grind arith
 
@@ -60,17 +54,3 @@ accepted_inside t u c h =
 
 pub named : (c : Counts) (z p k : ℕ) → outside c (read z p k) ≡ false → HasBlock c.zones c z p k
 named c z p k h = record { zone = grind (arith, nat_tests); place = grind (arith, nat_tests); bytes = grind (arith, nat_tests) }
-
--- the buffer of a read that is not accepted, and of one that is
-pub kept_buffer : (t u : Table) (bs : Blocks) (z p : ℕ) (found : List ℕ) (e : DeviceRefusal) → table_outcome t (read z p (length found)) ≡ (Err e, u) → buffer_after (drive t bs) z p found ≡ found
-kept_buffer t u bs z p found e h =
-    let a : answer (table_verdict t (read z p (length found))) ≡ Err e = ap (λ x. x.0) h in
-    keep (table_verdict t (read z p (length found))) a
-  where
-    keep : (v : Verdict) → answer v ≡ Err e → fetched (block_at bs z p) found v ≡ found
-    keep v a = grind arith
-
-pub fetched_buffer : (t u : Table) (bs : Blocks) (z p : ℕ) (found : List ℕ) → table_outcome t (read z p (length found)) ≡ (Ok tt, u) → buffer_after (drive t bs) z p found ≡ block_at bs z p
-fetched_buffer t u bs z p found h =
-    let a : answer (table_verdict t (read z p (length found))) ≡ Ok tt = ap (λ x. x.0) h in
-    ap (fetched (block_at bs z p) found) (ok_verdict (table_verdict t (read z p (length found))) a)

@@ -4,6 +4,7 @@ ghost use Rattle.zoned.specs.Limits.{bytes_of};
 use zoned::geometry::Geometry;
 
 // The bytes of some zones of a drive: zone after zone, block after block.
+// It holds the geometry too, so that its facts are of itself.
 // How many zones there are stands beside the bytes: it says in which area a zone lies, and of an area of no bytes the length does not tell it.
 #[derive(Drop)]
 pub struct Area {

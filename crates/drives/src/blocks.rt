@@ -38,6 +38,8 @@ impl Area {
     }
 }
 
+// Of a slice alone, as is the next one: written out in `put` and `get`, the goals on ranges of the vector did not close.
+
 // Writes bytes over those that stand from `at` on.
 fn put_at(cells: &mut [u8], at: usize, bytes: &[u8])
     requires { at + length bytes.now ≤ length cells.old }

@@ -5,7 +5,7 @@ use crate::area::Area;
 use crate::kind::DriveKind;
 use crate::table::ZoneTable;
 
-// A drive of either kind: its first zones lie in one area, and the rest in another.
+// A drive of either kind: its first zones lie in one area, and the rest in another. Like its table, it has no `impl Model`.
 #[derive(Drop)]
 pub struct Drive {
     pub(crate) kind: DriveKind,

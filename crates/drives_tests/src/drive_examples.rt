@@ -19,12 +19,8 @@ const COUNTS: Counts = Counts {
 };
 
 const NO_RESERVE: Counts = Counts {
-    zones: 4,
-    conventional: 2,
-    blocks: 2,
-    bytes: 16,
-    open_limit: 1,
     reserve: 0,
+    ..COUNTS
 };
 
 // The counts are looked at before the area, and a drive that is made all the same has no zones.

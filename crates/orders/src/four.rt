@@ -4,6 +4,8 @@ ghost use Rattle.orders.specs.Four.{fewest, lowest, oldest, worn};
 use crate::items::{FreeZone, Victim};
 use crate::keyed::Keyed;
 
+// Each order gives its definition and its key; that the two agree is `is_by_key`, by computation.
+
 // The victim that writes the fewest blocks; of two alike, the lowest chunk.
 #[derive(Clone, Copy)]
 pub struct Fewest;

@@ -37,6 +37,7 @@ pub fn play_lines<P: Player + Drop>(
 {
     let mut out = Vec::new(heap);
     let mut left = text;
+    // Each turn takes a line off the text; there is no index.
     while let Some((line, rest)) = first_line(left) {
         player.answer(line, &mut out)?;
         left = rest;

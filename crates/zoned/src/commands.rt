@@ -2,13 +2,13 @@ ghost use Rattle.std.specs.Prelude.{◌≡◌};
 ghost use Rattle.zoned.specs.Codes.{action_code};
 ghost use Rattle.zoned.specs.Commands.{action_operation};
 
-// What a command that manages a zone does to it.
+// What a command that manages a zone does to it, by the code by which ZBC and NVMe name it.
 #[derive(Clone, Copy, PartialEq, Eq, Debug)]
 pub enum Action {
-    Open,
-    Close,
-    Finish,
-    Reset,
+    Close = 0x01,
+    Finish = 0x02,
+    Open = 0x03,
+    Reset = 0x04,
 }
 
 // What a command does, whichever zone, place and bytes it names.
@@ -23,17 +23,11 @@ pub enum Operation {
     Read,
 }
 
-// The code by which ZBC and NVMe name the action.
 impl From<Action> for u8 {
     ghost from_gives = { λ action code. code ≡ action_code action };
 
     fn from(action: Action) -> u8 {
-        match action {
-            Action::Close => 0x01,
-            Action::Finish => 0x02,
-            Action::Open => 0x03,
-            Action::Reset => 0x04,
-        }
+        action as u8
     }
 }
 

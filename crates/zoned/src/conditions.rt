@@ -2,16 +2,16 @@ ghost use Rattle.std.specs.Prelude.{◌≡◌};
 ghost use Rattle.zoned.specs.Codes.{bad_condition, condition_code};
 ghost use Rattle.zoned.specs.Conditions.{is_bad};
 
-// The condition of a zone. A conventional zone is plain, read-only or offline, and a sequential one any other than plain.
+// The condition of a zone, by the code by which ZBC and NVMe name it. A conventional zone is plain, read-only or offline, and a sequential one any other than plain.
 #[derive(Clone, Copy, PartialEq, Eq, Debug)]
 pub enum Condition {
-    Plain,
-    Empty,
-    Open,
-    Closed,
-    ReadOnly,
-    Full,
-    Offline,
+    Plain = 0x00,
+    Empty = 0x01,
+    Open = 0x03,
+    Closed = 0x04,
+    ReadOnly = 0x0d,
+    Full = 0x0e,
+    Offline = 0x0f,
 }
 
 // What a medium fault makes of a zone. A zone in such a condition is called bad.
@@ -37,20 +37,11 @@ impl Condition {
     }
 }
 
-// The code by which ZBC and NVMe name the condition.
 impl From<Condition> for u8 {
     ghost from_gives = { λ condition code. code ≡ condition_code condition };
 
     fn from(condition: Condition) -> u8 {
-        match condition {
-            Condition::Plain => 0x00,
-            Condition::Empty => 0x01,
-            Condition::Open => 0x03,
-            Condition::Closed => 0x04,
-            Condition::ReadOnly => 0x0d,
-            Condition::Full => 0x0e,
-            Condition::Offline => 0x0f,
-        }
+        condition as u8
     }
 }
 

@@ -24,7 +24,7 @@ pub trait Reporter {
 }
 
 // A reporter that also takes commands.
-// Zone and place stay two parameters: a struct of both would be made at each call, only to be taken apart in it.
+// Zone and place stay two parameters: `manage` has a zone alone, and whoever looks a zone up does so apart from the place.
 pub trait ZonedDevice: Reporter {
     ghost state: { Self → State };
 

@@ -4,44 +4,39 @@ ghost use Rattle.zoned.specs.Codes.{device_number, input_number};
 
 use std::fmt;
 
-// Why an input is turned away before anything is done.
+// Why an input is turned away before anything is done. Each refusal has a number of its own.
 #[derive(Clone, Copy, PartialEq, Eq, Debug)]
 pub enum InputRefusal {
     // counts outside the limits of a geometry
-    Geometry,
+    Geometry = 1,
     // a buffer, a slice or an area of another length than is due
-    Length,
+    Length = 3,
     // a zone that the drive has not
-    Zone,
+    Zone = 4,
 }
 
-// Why a device turns a command away, or breaks it off.
+// Why a device turns a command away, or breaks it off, by its number.
 #[derive(Clone, Copy, PartialEq, Eq, Debug)]
 pub enum DeviceRefusal {
     // a zone, a place or a length that the drive has not
-    OutOfRange,
+    OutOfRange = 21,
     // a write at another place than the zone's pointer
-    OffPointer,
+    OffPointer = 22,
     // a condition in which the zone does not take the command
-    WrongCondition,
+    WrongCondition = 23,
     // one open zone too many
-    OpenLimit,
+    OpenLimit = 24,
     // a read at or past the zone's pointer
-    Unwritten,
+    Unwritten = 25,
     // a bad zone, or a fault that makes it one
-    Fault,
+    Fault = 26,
 }
 
-// Each refusal has a number of its own.
 impl From<InputRefusal> for u8 {
     ghost from_gives = { λ refusal number. number ≡ input_number refusal };
 
     fn from(refusal: InputRefusal) -> u8 {
-        match refusal {
-            InputRefusal::Geometry => 1,
-            InputRefusal::Length => 3,
-            InputRefusal::Zone => 4,
-        }
+        refusal as u8
     }
 }
 
@@ -49,18 +44,11 @@ impl From<DeviceRefusal> for u8 {
     ghost from_gives = { λ refusal number. number ≡ device_number refusal };
 
     fn from(refusal: DeviceRefusal) -> u8 {
-        match refusal {
-            DeviceRefusal::OutOfRange => 21,
-            DeviceRefusal::OffPointer => 22,
-            DeviceRefusal::WrongCondition => 23,
-            DeviceRefusal::OpenLimit => 24,
-            DeviceRefusal::Unwritten => 25,
-            DeviceRefusal::Fault => 26,
-        }
+        refusal as u8
     }
 }
 
-// A refusal is printed as its number.
+// A refusal is printed as its number. The two impls have one text: one for all refusals would be for types that are not of this crate.
 impl fmt::Display for InputRefusal {
     ghost output = { λ refusal. Some (decimal (input_number refusal)) };
 
