@@ -1,5 +1,5 @@
 -- The zone machine gives what the zone rules say, and the zones of a drive become what they say.
-use Rattle.std.proofs.Common.{◌≡◌, ℕ, ◌+◌, ◌<◌, ◌≤◌, Bool, true, false, cond, not, ◌&&◌, ◌||◌, eqb, leb, List, [], ◌∷◌, length, count_by, vec_items, get_or, map, replicate, set, Some, None, Ok, Err, Option, Result, sym, refl, ap, ◌∙◌, arith}
+use Rattle.std.proofs.Common.{◌≡◌, ℕ, ◌+◌, ◌<◌, ◌≤◌, Bool, true, false, cond, not, ◌&&◌, eqb, leb, List, [], ◌∷◌, length, count_by, vec_items, get_or, map, replicate, set, Some, None, Ok, Err, Option, Result, sym, refl, ap, ◌∙◌, arith}
 use Rattle.std.proofs.Math.Bool.{or-false}
 use Rattle.std.proofs.lemmas.Bool.Decides.{nat_tests}
 use Rattle.std.proofs.lemmas.List.{length-replicate, map-set, set-get_or, get_or-map}
@@ -16,7 +16,7 @@ use Rattle.zoned.specs.declared.refusals.DeviceRefusal.TheVariants.{OutOfRange, 
 use Rattle.zoned.specs.Commands.{Command, write, zone_of, operation_of}
 use Rattle.zoned.specs.Limits.{is_conventional}
 use Rattle.zoned.specs.Report.{Report, Lawful, zone_at, no_zone, possible, open_count}
-use Rattle.zoned.specs.Rules.{turned_away, outside, shut, takes, opens, when, moved, judged, answer, report_after, turned, misuse}
+use Rattle.zoned.specs.Rules.{turned_away, outside, shut, takes, opens, when, moved, judged, answer, report_after}
 use Rattle.zoned.specs.Conditions.{is_open}
 use Rattle.zoned.proofs.Bounds.{pointer_within}
 use Rattle.zoned.proofs.Steps.{lawful_after}

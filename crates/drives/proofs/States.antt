@@ -1,11 +1,11 @@
 -- From the zones of a drive to the whole drive.
-use Rattle.std.proofs.Common.{◌≡◌, ℕ, false, List, length, Ok, Err, Result, sym, ap, ◌∙◌, arith}
+use Rattle.std.proofs.Common.{◌≡◌, ℕ, false, Ok, Err, Result, sym, ap, ◌∙◌, arith}
 use Rattle.std.proofs.lemmas.Bool.Decides.{nat_tests}
 use Rattle.zoned.specs.declared.commands.Action.{Action}
 use Rattle.zoned.specs.declared.counts.Counts.{Counts}
 use Rattle.zoned.specs.declared.refusals.DeviceRefusal.{DeviceRefusal}
 use Rattle.zoned.specs.Commands.{Command, manage, read}
-use Rattle.zoned.specs.Rules.{Blocks, Verdict, accepted, answer, outcome, outside, block_at, blocks_after, buffer_after, fetched, stored}
+use Rattle.zoned.specs.Rules.{Blocks, Verdict, accepted, answer, outcome, outside, blocks_after, stored}
 use Rattle.zoned.proofs.Steps.{judged_by}
 use Rattle.drives.specs.Areas.{HasBlock}
 use Rattle.drives.specs.Drives.{drive}

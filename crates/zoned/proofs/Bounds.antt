@@ -1,11 +1,8 @@
 -- What the limits of a geometry give.
-use Rattle.std.proofs.Common.{◌≡◌, ℕ, zero, suc, ◌*◌, ◌/◌, ◌%◌, ◌<◌, ◌≤◌, Bool, true, refl, ap, ⊎_elim, mod-lt, div-lt_iff_lt-mul, mul-zero, div-add-mod', arith}
-use Rattle.std.proofs.lemmas.Bool.{or_cases}
+use Rattle.std.proofs.Common.{◌≡◌, ℕ, ◌<◌, ◌≤◌, Bool, true, arith}
 use Rattle.std.proofs.lemmas.Bool.Decides.{nat_tests}
-use Rattle.zoned.specs.declared.counts.Counts.{Counts}
 use Rattle.zoned.specs.declared.conditions.Condition.{Condition}
-use Rattle.zoned.specs.Limits.{within, fits, is_none, chunk_count, is_conventional}
-use Rattle.zoned.specs.Blocks.{Located}
+use Rattle.zoned.specs.Limits.{is_conventional}
 use Rattle.zoned.specs.Report.{Report, Lawful, possible, zone_at}
 
 -- a pointer lies within its zone
