@@ -7,7 +7,7 @@ use text::hex::put_hex;
 use text::replies::put_refusal;
 use zoned::refusals::DeviceRefusal;
 
-// The bytes read, or `no` and the number.
+// The bytes read, or `no` and the number. It is `put_answer` but for what it prints where the read is accepted.
 pub(crate) fn put_read(
     out: &mut Vec<u8>,
     answer: Result<(), DeviceRefusal>,

@@ -82,7 +82,7 @@ fn read_read(rest: &mut Fields) -> Option<Instruction>
     Some(Instruction::Read(Zone(zone), Place(place)))
 }
 
-// The word of a script for the condition that a fault sets.
+// The word of a script for the condition that a fault sets: a type of its own, since the enum and the trait are both of other crates.
 struct FaultWord(Bad);
 
 impl FromField for FaultWord {

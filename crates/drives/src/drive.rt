@@ -6,6 +6,7 @@ use crate::kind::DriveKind;
 use crate::table::ZoneTable;
 
 // A drive of either kind: its first zones lie in one area, and the rest in another. Like its table, it has no `impl Model`.
+// The second area of a magnetic drive has no zone, and is no `Option`: so every call goes by the zones of the first alone.
 #[derive(Drop)]
 pub struct Drive {
     pub(crate) kind: DriveKind,

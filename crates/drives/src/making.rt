@@ -20,7 +20,7 @@ use zoned::refusals::InputRefusal;
 
 impl Drive {
     // Turns away counts outside the limits, and then areas of another length than their zones have. The second area of a magnetic drive is
-    // that of no zone.
+    // that of no zone. Kind and areas stay three parameters: a check borrows the areas, and making a drive takes them.
     pub fn check(
         kind: DriveKind,
         counts: Counts,
@@ -41,6 +41,7 @@ impl Drive {
         }
     }
 
+    // Those for one kind are there for whoever has that kind, with the areas that it has.
     pub fn check_magnetic(counts: Counts, area: &[u8]) -> Result<(), InputRefusal>
         ensures { result ≡ areas_checked counts (magnetic_fits counts area.now) }
     {

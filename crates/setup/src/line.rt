@@ -48,7 +48,7 @@ impl Setup {
     }
 }
 
-// The word of a script for a kind of drive.
+// The word of a script for a kind of drive: a type of its own, since the enum and the trait are both of other crates.
 struct KindWord(DriveKind);
 
 impl FromField for KindWord {

@@ -24,6 +24,7 @@ fn digits_value(digits: &[u8]) -> Option<u32>
     requires { length digits.now ≤ 5 }
     ensures { result ≡ decimal_after 0 digits.now }
 {
+    // As a `try_fold` it would be no plainer: its closure would have to be shown to stay in bounds at any number.
     let mut n = 0;
     for b in digits {
         n = 10 * n + char::from(*b).to_digit(10)?;

@@ -23,6 +23,7 @@ pub enum Operation {
     Read,
 }
 
+// Each enum with codes or numbers has such an impl of its own: one for all would be for a type that is not of this crate.
 impl From<Action> for u8 {
     ghost from_gives = { λ action code. code ≡ action_code action };
 

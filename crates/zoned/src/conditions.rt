@@ -2,7 +2,8 @@ ghost use Rattle.std.specs.Prelude.{◌≡◌};
 ghost use Rattle.zoned.specs.Codes.{bad_condition, condition_code};
 ghost use Rattle.zoned.specs.Conditions.{is_bad};
 
-// The condition of a zone, by the code by which ZBC and NVMe name it. A conventional zone is plain, read-only or offline, and a sequential one any other than plain.
+// The condition of a zone, by the code by which ZBC and NVMe name it. A conventional zone is plain, read-only or offline, and a sequential
+// one any other than plain.
 #[derive(Clone, Copy, PartialEq, Eq, Debug)]
 pub enum Condition {
     Plain = 0x00,
@@ -14,7 +15,8 @@ pub enum Condition {
     Offline = 0x0f,
 }
 
-// What a medium fault makes of a zone. A zone in such a condition is called bad.
+// What a medium fault makes of a zone. A zone in such a condition is called bad. It is a type of its own, so that no fault makes a zone
+// anything else.
 #[derive(Clone, Copy, PartialEq, Eq, Debug)]
 pub enum Bad {
     ReadOnly,
