@@ -4,10 +4,10 @@ ghost use Rattle.drill.specs.Playing.{bytes_of, obeyed, printed};
 
 use crate::drill::Drill;
 use crate::instruction::Instruction;
-use crate::printing::{put_mark, put_read, put_threes};
+use crate::printing::{put_answer, put_mark, put_read, put_threes};
 use setup::bytes::filled;
 use std::alloc::AllocError;
-use text::replies::put_answer;
+use text::replies::{put_number, put_ok};
 use zoned::device::{Reporter, ZonedDevice};
 use zoned::listing::list_zones;
 use zoned::numbers::{Place, Zone};
@@ -22,7 +22,10 @@ impl Drill {
         ensures { OnOk result (printed (obeyed self.old instruction) out.old.items ≡ (self.new, out.new.items)) }
     {
         match instruction {
-            Instruction::SetTrip(zone, trip) => put_answer(out, self.drive.set_trip(zone, trip)),
+            Instruction::SetTrip(zone, trip) => match self.drive.set_trip(zone, trip) {
+                Ok(()) => put_ok(out),
+                Err(refusal) => put_number(out, u8::from(refusal)),
+            },
             Instruction::Manage(zone, action) => put_answer(out, self.drive.manage(zone, action)),
             Instruction::Write(zone, place, byte) => self.write(zone, place, byte, out),
             Instruction::Read(zone, place) => self.read(zone, place, out),

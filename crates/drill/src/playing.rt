@@ -1,5 +1,5 @@
-ghost use Rattle.std.specs.Prelude.{◌≡◌, IfOk, IfSome};
-ghost use Rattle.drill.specs.Playing.{drilled, first_understood, set_up, transcript};
+ghost use Rattle.std.specs.Prelude.{◌≡◌, ℕ, List, ◌∷◌, ◌++◌, IfOk, IfSome, OnOk};
+ghost use Rattle.drill.specs.Playing.{drilled, first_understood, line_answered, printed, set_up, transcript};
 ghost use Rattle.setup.specs.Setup.{setup_checked, setup_taken};
 ghost use Rattle.text.specs.Pieces.{fields};
 ghost use Rattle.text.specs.Replies.{refusal_line};
@@ -12,7 +12,7 @@ use std::alloc::{AllocError, Global};
 use std::fmt::Display;
 use text::fields::Fields;
 use text::lines::{Player, first_line, play_lines};
-use text::replies::{NotUnderstood, put_refusal};
+use text::replies::{NotUnderstood, put_number, put_refusal};
 
 // What a whole script prints: its first line sets a drive up, and the others are played on it.
 pub fn play(heap: Global, script: &[u8]) -> Result<Vec<u8>, AllocError>
@@ -60,10 +60,14 @@ impl Player for Drill {
 
     ghost quiet = { Prim.search rules };
 
-    fn answer(&mut self, line: &[u8], out: &mut Vec<u8>) -> Result<(), AllocError> {
+    // Besides what every player promises: the drill after the line, which the lines after it may not show.
+    fn answer(&mut self, line: &[u8], out: &mut Vec<u8>) -> Result<(), AllocError>
+        ensures prints { OnOk result ((rest : List (List ℕ)) → out.old.items ++ drilled self.old (line.now ∷ rest) ≡ out.new.items ++ drilled self.new rest) }
+        ensures drill { OnOk result (printed (line_answered self.old line.now) out.old.items ≡ (self.new, out.new.items)) }
+    {
         match read_instruction(line) {
             Some(instruction) => self.obey(instruction, out),
-            None => put_refusal(out, NotUnderstood),
+            None => put_number(out, u8::from(NotUnderstood)),
         }
     }
 }

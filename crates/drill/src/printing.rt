@@ -1,11 +1,24 @@
 ghost use Rattle.std.specs.Prelude.{◌≡◌, [], ◌∷◌, ◌++◌, OnOk};
-ghost use Rattle.drill.specs.Playing.{in_threes, mark_line, read_reply};
+ghost use Rattle.drill.specs.Playing.{in_threes, mark_line, read_reply, reply};
 ghost use Rattle.text.specs.Hexadecimal.{hex};
 
 use std::alloc::AllocError;
 use text::hex::put_hex;
-use text::replies::put_refusal;
+use text::replies::{put_number, put_ok};
 use zoned::refusals::DeviceRefusal;
+
+// `ok`, or `no` and the number: by the number, and not by text's `put_answer`, since a script prints an answer for each of its lines.
+pub(crate) fn put_answer(
+    out: &mut Vec<u8>,
+    answer: Result<(), DeviceRefusal>,
+) -> Result<(), AllocError>
+    ensures { OnOk result (out.new.items ≡ out.old.items ++ reply answer) }
+{
+    match answer {
+        Ok(()) => put_ok(out),
+        Err(refusal) => put_number(out, u8::from(refusal)),
+    }
+}
 
 // The bytes read, or `no` and the number. It is `put_answer` but for what it prints where the read is accepted.
 pub(crate) fn put_read(
@@ -17,7 +30,7 @@ pub(crate) fn put_read(
 {
     match answer {
         Ok(()) => put_bytes(out, bytes),
-        Err(refusal) => put_refusal(out, refusal),
+        Err(refusal) => put_number(out, u8::from(refusal)),
     }
 }
 

@@ -1,6 +1,6 @@
 -- A drive keeps the laws of reporters, and its blocks have its shape.
 use Rattle.std.specs.Prelude.{◌≡◌, ℕ, ◌+◌, ◌-◌, ◌*◌, ◌<◌, ◌≤◌, true, ◌⊎◌, [], ◌++◌, length, vec_items, slice_index_or}
-use Rattle.std.proofs.Common.{sym, ap, ◌∙◌, inl, inr, arith}
+use Rattle.std.proofs.Common.{sym, refl, ap, ◌∙◌, inl, inr, arith}
 use Rattle.std.proofs.lemmas.List.{length-append, length-map, get_or_append_left, get_or-append_right}
 use Rattle.std.proofs.lemmas.Bool.{cases_lt}
 use Rattle.std.proofs.lemmas.Bool.Decides.{nat_tests}
@@ -43,6 +43,10 @@ area_shape a c e = rw (← e) (record {
 
     whole : length (vec_items a.cells) ≡ a.zones * n.blocks * n.bytes
     whole = sym a.cells.ok.0 ∙ a.whole
+
+-- the same, under the names that a drive has for these numbers
+pub area_shaped : (a : Area) (k n b : ℕ) → (a.zones ≡ k) × (a.geometry.counts.blocks ≡ n) × (a.geometry.counts.bytes ≡ b) → Shape (area_blocks a) k n b
+area_shaped a k n b f = rw (← f.0, ← f.1, ← f.2) (area_shape a a.geometry.counts refl)
 
 pub joined_shaped : (xs ys : Blocks) (k j n b : ℕ) → Shape xs k n b → Shape ys j n b → Shape (xs ++ ys) (k + j) n b
 joined_shaped xs ys k j n b s t = record {

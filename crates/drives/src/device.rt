@@ -97,6 +97,7 @@ impl Drive {
     }
 
     // Writes a block, in the area where its zone lies. The reading below is alike, but for one the area changes and for the other it does not.
+    #[tactic(auto, using(crate::specs::Joined::put_first, crate::specs::Joined::put_second, crate::specs::Shapes::zones_held))]
     fn put(&mut self, zone: Zone, place: Place, block: &[u8])
         requires { HasBlock self.old.zones.geometry.counts.zones self.old.zones.geometry.counts zone.0 place.0 (length block.now) }
         ensures blocks { drive_store self.new ≡ with_block (drive_store self.old) zone.0 place.0 block.now }
@@ -112,6 +113,7 @@ impl Drive {
     }
 
     // Reads a block, from the area where its zone lies.
+    #[tactic(auto, using(crate::specs::Joined::block_first, crate::specs::Joined::block_second, crate::specs::Shapes::zones_held))]
     fn get(&self, zone: Zone, place: Place, buffer: &mut [u8])
         requires { HasBlock self.now.zones.geometry.counts.zones self.now.zones.geometry.counts zone.0 place.0 (length buffer.old) }
         ensures { buffer.new ≡ block_at (drive_store self.now) zone.0 place.0 }

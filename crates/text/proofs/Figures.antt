@@ -1,8 +1,9 @@
 -- Decimal digits, read and written one by one.
-use Rattle.std.proofs.Common.{◌≡◌, ℕ, ◌+◌, ◌-◌, ◌*◌, ◌/◌, ◌%◌, ◌^◌, ◌<◌, true, List, [], ◌∷◌, ◌++◌, length, Some, ap, arith, rules}
+use Rattle.std.proofs.Common.{◌≡◌, ℕ, ◌+◌, ◌-◌, ◌*◌, ◌/◌, ◌%◌, ◌^◌, ◌<◌, ◌≤◌, true, List, [], ◌∷◌, ◌++◌, length, Some, sym, ap, ◌∙◌, arith, rules}
 use Rattle.std.specs.Fmt as written
 use Rattle.std.proofs.lemmas.Bool.Decides.{nat_tests}
-use Rattle.std.proofs.lemmas.Fmt.{AppendsLastDigit, decimal_from_appends, decimal_digit, decimal_by_steps, decimal_nonempty, first_decimal, length-decimal-le}
+use Rattle.std.proofs.lemmas.List.{length_push}
+use Rattle.std.proofs.lemmas.Fmt.{AppendsLastDigit, decimal_from_appends, decimal_digit, decimal_step, decimal_by_steps, decimal_nonempty, first_decimal, length-decimal-le}
 use Rattle.text.specs.Decimal.{decimal_after, well_formed, decimal, last_digits, digits}
 
 spells : AppendsLastDigit last_digits
@@ -14,6 +15,25 @@ unfolding digits
 digits_written n h =
     let few = length-decimal-le 10 n (omega arith) (omega arith) (omega arith) in
     decimal_from_appends last_digits spells 10 n (omega arith) few
+
+pub digits_one : (n : ℕ) → n < 10 → digits n ≡ (48 + n) ∷ []
+digits_one n h = digits_written n (omega arith) ∙ decimal_digit n h
+
+pub digits_step : (n : ℕ) → 10 ≤ n → n < 2 ^ 32 → digits n ≡ digits (n / 10) ++ ((48 + n % 10) ∷ [])
+digits_step n h k =
+    let e = digits_written (n / 10) (omega arith) in
+    digits_written n k ∙ decimal_step n h (omega arith) ∙ ap (λ ds. ds ++ ((48 + n % 10) ∷ [])) (sym e)
+
+pub digits_one_length : (n : ℕ) → n < 10 → length (digits n) ≡ 1
+digits_one_length n h = ap length (digits_one n h)
+
+pub digits_step_length : (n : ℕ) → 10 ≤ n → n < 2 ^ 32 → length (digits n) ≡ length (digits (n / 10)) + 1
+digits_step_length n h k = ap length (digits_step n h k) ∙ length_push (digits (n / 10)) (48 + n % 10)
+
+pub digits_few : (n : ℕ) → n < 2 ^ 32 → length (digits n) ≤ 10
+digits_few n h =
+    let e = ap length (digits_written n h) in
+    omega (arith, e, length-decimal-le 10 n (omega arith) (omega arith) (omega arith))
 
 -- one digit more after digits that are read
 read_push : (m : ℕ) (ds : List ℕ) (k d : ℕ) → d < 10 → decimal_after m ds ≡ Some k → decimal_after m (ds ++ ((48 + d) ∷ [])) ≡ Some (k * 10 + d)

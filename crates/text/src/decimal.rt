@@ -1,5 +1,5 @@
 // Numbers in decimal.
-ghost use Rattle.std.specs.Prelude.{◌≡◌, ◌<◌, ◌≤◌, ◌++◌, length, is_ok, if◌then◌else◌, Some};
+ghost use Rattle.std.specs.Prelude.{◌≡◌, ◌+◌, ◌<◌, ◌≤◌, ◌++◌, length, is_ok, if◌then◌else◌, Some, vec_len, vec_capacity};
 ghost use Rattle.text.specs.Decimal.{decimal, decimal_after, digits};
 
 use crate::fields::FromField;
@@ -37,6 +37,20 @@ pub fn put_decimal(out: &mut Vec<u8>, n: u32) -> Result<(), AllocError>
     ensures back { n < 100000 → decimal (digits n) ≡ Some n }
     ensures items { out.new.items ≡ (if is_ok result then out.old.items ++ digits n else out.old.items) }
 {
-    let text = n.to_string(*out.allocator())?;
-    out.extend_from_slice(text.as_bytes())
+    out.reserve(10)?;
+    push_digits(out, n);
+    Ok(())
+}
+
+// Not by `to_string`, which allocates: it takes twice as long.
+pub(crate) fn push_digits(out: &mut Vec<u8>, n: u32)
+    requires { vec_len out.old + length (digits n) ≤ vec_capacity out.old }
+    ensures items { out.new.items ≡ out.old.items ++ digits n }
+    ensures len { vec_len out.new ≡ vec_len out.old + length (digits n) }
+    ensures capacity { vec_capacity out.new ≡ vec_capacity out.old }
+{
+    if n >= 10 {
+        push_digits(out, n / 10);
+    }
+    out.push_reserved(b'0' + (n % 10) as u8);
 }

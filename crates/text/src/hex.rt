@@ -1,10 +1,9 @@
 // Bytes in hexadecimal.
 ghost use Rattle.std.specs.Prelude.{◌≡◌, ℕ, ◌<◌, [], ◌∷◌, ◌++◌, is_ok, if◌then◌else◌, Some};
-ghost use Rattle.text.specs.Hexadecimal.{hex, hex_byte, hex_digit};
+ghost use Rattle.text.specs.Hexadecimal.{digit_code, hex, hex_byte, hex_digit};
 
 use crate::fields::FromField;
 use std::alloc::AllocError;
-use std::fmt::Write;
 
 // Two digits, of either case.
 impl FromField for u8 {
@@ -31,9 +30,18 @@ pub fn put_hex(out: &mut Vec<u8>, bytes: &[u8]) -> Result<(), AllocError>
     ensures back { (b : ℕ) → b < 256 → hex_byte (hex (b ∷ [])) ≡ Some b }
     ensures items { out.new.items ≡ (if is_ok result then out.old.items ++ hex bytes.now else out.old.items) }
 {
-    let mut text = String::new(*out.allocator());
+    // Not by `write!` and `{b:02x}`, which takes some forty times as long.
+    out.reserve(2 * bytes.len())?;
     for b in bytes {
-        write!(text, "{b:02x}")?;
+        out.push_reserved(digit_byte(*b / 16));
+        out.push_reserved(digit_byte(*b % 16));
     }
-    out.extend_from_slice(text.as_bytes())
+    Ok(())
+}
+
+fn digit_byte(d: u8) -> u8
+    requires { d < 16 }
+    ensures { result ≡ digit_code d }
+{
+    if d < 10 { b'0' + d } else { b'a' + d - 10 }
 }

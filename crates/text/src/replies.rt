@@ -1,8 +1,9 @@
 // What is answered to a line, as a line of its own.
 ghost use Rattle.std.specs.Prelude.{◌≡◌, ◌++◌, is_ok, IfSome, if◌then◌else◌, Some};
 ghost use Rattle.text.specs.Decimal.{digits};
-ghost use Rattle.text.specs.Replies.{answer_line, ok_line, refusal_line};
+ghost use Rattle.text.specs.Replies.{answer_line, ok_line, refusal, refusal_line};
 
+use crate::decimal::push_digits;
 use std::alloc::AllocError;
 use std::fmt;
 use std::fmt::Display;
@@ -54,4 +55,19 @@ pub fn put_answer<R: Display + Drop>(
         Ok(()) => put_ok(out),
         Err(refusal) => put_refusal(out, refusal),
     }
+}
+
+// Appends the line of `put_refusal` for a refusal of this number, all or none of it. Nothing is formatted or allocated for it apart, since a
+// script may print such a line for each of its own.
+pub fn put_number(out: &mut Vec<u8>, number: u8) -> Result<(), AllocError>
+    ensures { out.new.items ≡ (if is_ok result then out.old.items ++ refusal number else out.old.items) }
+{
+    // Three bytes, at most ten digits, and the end of the line.
+    out.reserve(14)?;
+    out.push_reserved(b'n');
+    out.push_reserved(b'o');
+    out.push_reserved(b' ');
+    push_digits(out, u32::from(number));
+    out.push_reserved(b'\n');
+    Ok(())
 }

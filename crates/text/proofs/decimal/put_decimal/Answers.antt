@@ -1,12 +1,12 @@
 use Rattle.std.proofs.Common.{rules}
-use Rattle.text.proofs.Figures.{digits_written, reads_back}
+use Rattle.text.proofs.Figures.{digits_few, reads_back}
 use Rattle.text.proofs.decimal.put_decimal.Goals as goal
 
-pub returns-in_err-text-clause-back : goal.returns-in_err-text-clause-back
-returns-in_err-text-clause-back c = search (rules, reads_back)
+pub push_digits-requires : goal.push_digits-requires
+push_digits-requires c = search (rules, digits_few)
 
-pub returns-clause-back : goal.returns-clause-back
-returns-clause-back c = search (rules, reads_back)
+pub returns : goal.returns
+returns c = search (rules, reads_back)
 
-pub returns-clause-items : goal.returns-clause-items
-returns-clause-items c = search (rules, digits_written)
+pub returns-in_err-reserve : goal.returns-in_err-reserve
+returns-in_err-reserve c = search (rules, reads_back)
